@@ -1,0 +1,4 @@
+pub mod House
+pub mod Promise
+pub mod Machine
+pub mod Entry
