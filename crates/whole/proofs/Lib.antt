@@ -1,3 +1,4 @@
 pub mod Plans
 pub mod Kept
 pub mod Steady
+pub mod Acts
