@@ -2,3 +2,5 @@ pub mod Plans
 pub mod Kept
 pub mod Steady
 pub mod Acts
+pub mod Orders
+pub mod Holds
