@@ -46,7 +46,7 @@ unfolding decisions-from
 same-decisions m m₁ s k zero = refl
 same-decisions m m₁ s k (suc n) = ap (λ v. applies (k + 1) v ∷ decisions-from m₁ (k + 1) n) (s .held k) ∙ ap (λ x. applies (k + 1) (value-at m k) ∷ x) (same-decisions m m₁ s (k + 1) n)
 
-acts-still : (m : List ℕ) → loaded m .unsettled ≡ false → acts m ≡ decisions-from m (applied-number m) (decided m - applied-number m)
+pub acts-still : (m : List ℕ) → loaded m .unsettled ≡ false → acts m ≡ decisions-from m (applied-number m) (decided m - applied-number m)
 unfolding acts
 acts-still m u = ap (λ b. cond b (settle ∷ []) [] ++ decisions-from m (applied-number m) (decided m - applied-number m)) u
 
@@ -64,11 +64,11 @@ module _ (m : List ℕ) (long : Long m) where
   pub safe-long : Long safe
   safe-long = length-stored m (settled (loaded m)) ∙ long
 
-  go-settle : loaded m .unsettled ≡ true → go-on m ≡ answer safe settle
+  pub go-settle : loaded m .unsettled ≡ true → go-on m ≡ answer safe settle
   unfolding go-on
   go-settle u = cond-true (loaded m .unsettled) (answer safe settle) (apply-due m (loaded m) (due m)) u
 
-  acts-settle : loaded m .unsettled ≡ true → acts m ≡ settle ∷ acts safe
+  pub acts-settle : loaded m .unsettled ≡ true → acts m ≡ settle ∷ acts safe
   unfolding acts
   acts-settle u =
       rw (u, safe-loaded, stored-applied m (settled (loaded m)), same-decided m safe (stored-log m (settled (loaded m))), same-decisions m safe (stored-entries m (settled (loaded m))) (applied-number m) (decided m - applied-number m))
@@ -108,7 +108,7 @@ module _ (m : List ℕ) (long : Long m) where
       applied-set-applied (stored m noted) (applied-number m + 1) (length-stored m noted ∙ long) (omega (arith, number-most m (commit-index m)))
 
   module _ (still : loaded m .unsettled ≡ false) where
-    go-apply : applied-number m < decided m → go-on m ≡ answer onward (applies (applied-number m + 1) (value-at m (applied-number m)))
+    pub go-apply : applied-number m < decided m → go-on m ≡ answer onward (applies (applied-number m + 1) (value-at m (applied-number m)))
     unfolding go-on
     go-apply l =
         cond-false (loaded m .unsettled) (answer safe settle) (apply-due m (loaded m) (due m)) still
@@ -120,7 +120,7 @@ module _ (m : List ℕ) (long : Long m) where
         cond-false (loaded m .unsettled) (answer safe settle) (apply-due m (loaded m) (due m)) still
         ∙ ap (λ b. apply-due m (loaded m) (cond b (Some (applied-number m)) None)) (le-ltb (applied-number m) (decided m) l)
 
-    acts-apply : applied-number m < decided m → acts m ≡ applies (applied-number m + 1) (value-at m (applied-number m)) ∷ acts onward
+    pub acts-apply : applied-number m < decided m → acts m ≡ applies (applied-number m + 1) (value-at m (applied-number m)) ∷ acts onward
     unfolding decisions-from
     acts-apply l =
         let k : ℕ = applied-number m in
@@ -130,7 +130,7 @@ module _ (m : List ℕ) (long : Long m) where
               rw (onward-applied l, same-decided m onward onward-log) (same-decisions m onward (onward-log .entries) (k + 1) (decided m - (k + 1))) in
         acts-still m still ∙ (ap (decisions-from m k) more ∙ sym (ap (λ x. applies (k + 1) (value-at m k) ∷ x) (acts-still onward u ∙ left)))
 
-    acts-done : decided m ≤ applied-number m → acts m ≡ []
+    pub acts-done : decided m ≤ applied-number m → acts m ≡ []
     unfolding acts decisions-from
     acts-done l = let none : decided m - applied-number m ≡ 0 = omega arith in rw (still, none)
 

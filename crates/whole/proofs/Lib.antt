@@ -4,3 +4,5 @@ pub mod Steady
 pub mod Acts
 pub mod Orders
 pub mod Holds
+pub mod Going
+pub mod Events

@@ -82,7 +82,7 @@ first-acts (suc n) [] = []
 first-acts (suc n) (a ∷ as₁) = a ∷ first-acts n as₁
 
 module _ (e : Engine) (fit : List ℕ → Type 0) (acts : List ℕ → List Act) (rest : List ℕ → List ℕ) (p : Planned e fit acts rest) where
-  abbrev outcome : ℕ → List Act → List ℕ → List ℕ → List Letter → List Applied → List ℕ → Ran
+  abbrev pub outcome : ℕ → List Act → List ℕ → List ℕ → List Letter → List Applied → List ℕ → Ran
   outcome n as₁ m s fs ds ss =
       ran (memory-after rest n as₁ m) (stable-after rest n as₁ m s) (fs ++ letters-in (first-acts n as₁)) (ds ++ decisions-in (first-acts n as₁)) ss (end-after n as₁)
 
