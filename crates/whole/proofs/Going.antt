@@ -21,7 +21,7 @@ use Rattle.together.specs.House.{pick, every, same, Applied, applied, Far, far,
 use Rattle.together.specs.Promise.{Act, settle, applies, Step, Letter, Ran, ran, last-since}
 use Rattle.together.specs.Machine.{answer, go-on, decisions-from, acts}
 use Rattle.together.specs.Entry.{own}
-use Rattle.whole.proofs.Plans.{outcome, memory-after, stable-after, end-after, first-acts, letters-in, decisions-in}
+use Rattle.whole.proofs.Plans.{end-done, outcome, memory-after, stable-after, end-after, first-acts, letters-in, decisions-in}
 use Rattle.whole.proofs.Acts.{Long, rest, Goes, settling, applying, resting, goes, safe, safe-loaded, safe-long, stored-log, go-settle, acts-settle, onward, onward-loaded, onward-long, onward-log, onward-applied, go-apply, acts-apply, acts-done, acts-still, own-planned}
 use Rattle.whole.proofs.Holds.{Holds, holds-decided, holds-same}
 use Rattle.whole.proofs.Orders.{same-self}
@@ -231,3 +231,13 @@ module _ (many h k : ℕ) (ps : List (List ℕ)) (o : List ℕ) where
       by more (resting u l) =
           subst (λ (r : Ran). Fine f r) (sym (made-rest n m s long u l))
           (fine-none m s f 0 g₁ (g .ever) (inr (refl, record { going = g; still = u; all = omega (arith, holds-decided ps o m (g .holds)) })))
+
+  -- ... whatever was safe before, if memory is made safe first
+  pub settled-fine : (n : ℕ) (m s : List ℕ) (f : Far) (g : Going m f) → loaded m .unsettled ≡ true → Fine f (made (suc n) m s)
+  settled-fine n m s f g u =
+      let long = g .holds .long in
+      subst (λ (r : Ran). Fine f r) (sym (made-settle n m s long u)) (made-fine n (safe m long) (safe m long) f (safe-going m f g) (safe-stable m f g u))
+
+-- with acts enough it ends
+pub made-ends : (n : ℕ) (m s : List ℕ) → 4098 ≤ n → made n m s .end ≡ 0
+made-ends n m s l = end-done n (acts m) (omega (arith, acts-few m))

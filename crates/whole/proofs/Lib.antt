@@ -6,3 +6,4 @@ pub mod Orders
 pub mod Holds
 pub mod Going
 pub mod Events
+pub mod Runs
