@@ -7,3 +7,4 @@ pub mod Holds
 pub mod Going
 pub mod Events
 pub mod Runs
+pub mod Worlds

@@ -52,7 +52,7 @@ pub record Went (many h k : ℕ) (ps : List (List ℕ)) (o : List ℕ) (f : Far)
   pub stable : Stable many h k ps₁ o₁ (r .stable) (far-after f (r .did))
   pub stays : (r .end ≡ 1000) ⊎ Rests many h k ps₁ o₁ (r .memory) (far-after f (r .did))
 
-went-fine : (many h k : ℕ) (ps : List (List ℕ)) (o : List ℕ) (f : Far) (r : Ran) (ps₁ : List (List ℕ)) (o₁ : List ℕ) → Grown many ps o ps₁ o₁ → Fine many h k ps₁ o₁ f r →
+pub went-fine : (many h k : ℕ) (ps : List (List ℕ)) (o : List ℕ) (f : Far) (r : Ran) (ps₁ : List (List ℕ)) (o₁ : List ℕ) → Grown many ps o ps₁ o₁ → Fine many h k ps₁ o₁ f r →
     Went many h k ps o f r ps₁
 went-fine many h k ps o f r ps₁ o₁ g z =
     record
@@ -64,7 +64,7 @@ unfolding runs
 run-none m s ev = refl
 
 module _ (many h k : ℕ) (ps : List (List ℕ)) (o : List ℕ) (ordered : an-order ps o ≡ true) (short : length o ≤ length ps) where
-  grown-none : Grown many ps o ps o
+  pub grown-none : Grown many ps o ps o
   grown-none = record { ordered = ordered; onward = begins-self o; short = short; others = inr (refl, λ m g. g) }
 
   grown-later : (v : List ℕ) → Grown many ps o (ps ++ v ∷ []) o
