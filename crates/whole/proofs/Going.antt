@@ -22,7 +22,7 @@ use Rattle.together.specs.Promise.{Act, settle, applies, Step, Letter, Ran, ran
 use Rattle.together.specs.Machine.{answer, go-on, decisions-from, acts}
 use Rattle.together.specs.Entry.{own}
 use Rattle.whole.proofs.Plans.{end-done, outcome, memory-after, stable-after, end-after, first-acts, letters-in, decisions-in}
-use Rattle.whole.proofs.Acts.{Long, rest, Goes, settling, applying, resting, goes, safe, safe-loaded, safe-long, stored-log, go-settle, acts-settle, onward, onward-loaded, onward-long, onward-log, onward-applied, go-apply, acts-apply, acts-done, acts-still, own-planned}
+use Rattle.whole.proofs.Acts.{Long, rest, Goes, settling, applying, resting, goes, safe, safe-loaded, safe-long, stored-log, same-decided, go-settle, acts-settle, onward, onward-loaded, onward-long, onward-log, onward-applied, go-apply, acts-apply, acts-done, acts-still, own-planned}
 use Rattle.whole.proofs.Holds.{Holds, holds-decided, holds-same}
 use Rattle.whole.proofs.Orders.{same-self}
 
@@ -241,3 +241,29 @@ module _ (many h k : ℕ) (ps : List (List ℕ)) (o : List ℕ) where
 -- with acts enough it ends
 pub made-ends : (n : ℕ) (m s : List ℕ) → 4098 ≤ n → made n m s .end ≡ 0
 made-ends n m s l = end-done n (acts m) (omega (arith, acts-few m))
+
+-- the acts leave the role as it is
+pub made-role : (n : ℕ) (m s : List ℕ) → Long m → loaded (made n m s .memory) .role ≡ loaded m .role
+made-role zero m s long = ap (λ (r : Ran). loaded (r .memory) .role) (made-none m s)
+made-role (suc n) m s long = by (λ m₁ s₁ l. made-role n m₁ s₁ l) (goes m)
+  where
+    by : ((m₁ s₁ : List ℕ) → Long m₁ → loaded (made n m₁ s₁ .memory) .role ≡ loaded m₁ .role) → Goes m → loaded (made (suc n) m s .memory) .role ≡ loaded m .role
+    by more (settling u) =
+        ap (λ (r : Ran). loaded (r .memory) .role) (made-settle n m s long u)
+        ∙ (more (safe m long) (safe m long) (safe-long m long) ∙ ap (λ (x : Machine). x .role) (safe-loaded m long))
+    by more (applying u l) =
+        ap (λ (r : Ran). loaded (r .memory) .role) (made-apply n m s long u l)
+        ∙ (more (onward m long) s (onward-long m long) ∙ ap (λ (x : Machine). x .role) (onward-loaded m long))
+    by more (resting u l) = ap (λ (r : Ran). loaded (r .memory) .role) (made-rest n m s long u l)
+
+-- what is settled first and applied next
+pub made-first : (n : ℕ) (m s : List ℕ) (long : Long m) → loaded m .unsettled ≡ true → applied-number m < decided m →
+    made (suc (suc n)) m s ≡ after-first (applied (applied-number m + 1) (value-at m (applied-number m))) (made n (onward (safe m long) (safe-long m long)) (safe m long))
+made-first n m s long u l =
+    let a = stored-applied m (settled (loaded m)) in
+    let q = stored-log m (settled (loaded m)) in
+    let still : loaded (safe m long) .unsettled ≡ false = ap (λ (x : Machine). x .unsettled) (safe-loaded m long) in
+    made-settle (suc n) m s long u
+    ∙ (made-apply n (safe m long) (safe m long) (safe-long m long) still (omega (arith, same-decided m (safe m long) q))
+       ∙ ap (λ (y : Applied). after-first y (made n (onward (safe m long) (safe-long m long)) (safe m long)))
+           (ap (λ j. applied (j + 1) (value-at (safe m long) j)) a ∙ ap (applied (applied-number m + 1)) (q .entries .held (applied-number m))))

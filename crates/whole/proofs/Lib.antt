@@ -8,3 +8,5 @@ pub mod Going
 pub mod Events
 pub mod Runs
 pub mod Worlds
+pub mod Nearer
+pub mod Solo

@@ -8,11 +8,12 @@ use native.Mathlib.Omega.{arith}
 use lib.Dec.{eqb, leb, ltb}
 use lib.ListN.{length, getD}
 use Rattle.std.proofs.shelf.Lists.{length-push}
-use Rattle.std.proofs.shelf.Tests.{ltb-true, ltb-false, lt-ltb, le-ltb, le-leb, lt-leb, leb-true, leb-false, and-from, and-parts, and-cases, cases-bool, cond-true, cond-false}
+use Rattle.std.proofs.shelf.Tests.{ltb-true, ltb-false, lt-ltb, le-ltb, le-leb, lt-leb, leb-true, leb-false, and-from, and-parts, and-cases, cases-bool, cond-true, cond-false, cond-both}
 use Rattle.std.specs.declared.result.Result.{Result}
 use Rattle.std.specs.declared.result.Result.the-variants.{Ok, Err}
 use Rattle.raft_log.specs.Entries.{last-index, applied-number, values, value-fits, value-appended, commit-raised}
-use Rattle.raft_log.proofs.AppendLaws.{roomy-last}
+use Rattle.raft_log.proofs.AppendLaws.{roomy-last, appended-applied}
+use Rattle.raft_log.proofs.LogLaws.{commit-raised-applied}
 use Rattle.raft.specs.declared.header.Role.{Role}
 use Rattle.raft.specs.declared.header.Role.the-variants.{Follower, Candidate, Leader}
 use Rattle.raft.specs.declared.header.Machine.{Machine}
@@ -20,9 +21,9 @@ use Rattle.raft.specs.declared.proposal.Refusal.{Refusal}
 use Rattle.raft.specs.declared.proposal.Refusal.the-variants.{NotNow, TooLong, Full}
 use Rattle.raft.specs.Header.{loaded, stored}
 use Rattle.raft.specs.Power.{powered}
-use Rattle.raft.specs.Election.{ticked}
+use Rattle.raft.specs.Election.{most-of, ticked}
 use Rattle.raft.specs.Proposal.{refusal-number, with-unsettled, own-acked, taken, propose-as, proposed}
-use Rattle.raft.proofs.HeaderLaws.{Held, loaded-held, loaded-stored, length-stored}
+use Rattle.raft.proofs.HeaderLaws.{Held, loaded-held, loaded-stored, length-stored, stored-applied}
 use Rattle.together.specs.House.{pick, or, every, propose, how-far, Applied, Far, far, all-in-turn, far-after, by-order, an-order, begins}
 use Rattle.together.specs.Promise.{Event, on, said, tick, next, shows, done, refused, Step, Letter, Ran, ran, runs, one-act, last-since, are-bytes}
 use Rattle.together.specs.Machine.{answer, go-on, after-proposal, acts, own-step}
@@ -52,7 +53,7 @@ pub record Went (many h k : ℕ) (ps : List (List ℕ)) (o : List ℕ) (f : Far)
   pub stable : Stable many h k ps₁ o₁ (r .stable) (far-after f (r .did))
   pub stays : (r .end ≡ 1000) ⊎ Rests many h k ps₁ o₁ (r .memory) (far-after f (r .did))
 
-pub went-fine : (many h k : ℕ) (ps : List (List ℕ)) (o : List ℕ) (f : Far) (r : Ran) (ps₁ : List (List ℕ)) (o₁ : List ℕ) → Grown many ps o ps₁ o₁ → Fine many h k ps₁ o₁ f r →
+abbrev pub went-fine : (many h k : ℕ) (ps : List (List ℕ)) (o : List ℕ) (f : Far) (r : Ran) (ps₁ : List (List ℕ)) (o₁ : List ℕ) → Grown many ps o ps₁ o₁ → Fine many h k ps₁ o₁ f r →
     Went many h k ps o f r ps₁
 went-fine many h k ps o f r ps₁ o₁ g z =
     record
@@ -155,6 +156,21 @@ asked m v = size (ltb 256 (length v)) refl
     size : (b : Bool) → ltb 256 (length v) ≡ b → Asked m v
     size true e = turned-away TooLong (ltb-true 256 (length v) e) (ap (λ t. answers t (x .role)) e)
     size false e = role (x .role) refl e
+
+-- a leader with room takes a proposal
+pub propose-takes : (m v : List ℕ) → length v ≤ 256 → loaded m .role ≡ Leader → value-fits m (length v) ≡ true → proposed m v ≡ Ok (taken m (loaded m) v)
+unfolding proposed
+propose-takes m v short leads fits =
+    cond-false (ltb 256 (length v)) (Err TooLong) (propose-as m (loaded m) (loaded m .role) v) (le-ltb 256 (length v) short)
+    ∙ (ap (λ t. propose-as m (loaded m) t v) leads ∙ cond-true (value-fits m (length v)) (Ok (taken m (loaded m) v)) (Err Full) fits)
+
+pub taken-applied : (m v : List ℕ) → value-fits m (length v) ≡ true → Long m → applied-number (taken m (loaded m) v) ≡ applied-number m
+unfolding taken own-acked
+taken-applied m v fits long =
+    let t : ℕ = loaded m .term .0 in
+    stored-applied (own-acked (value-appended m t v) (loaded m) (last-index m + 1)) (with-unsettled (loaded m))
+    ∙ cond-both (most-of 1 (loaded m .size .0)) (commit-raised (value-appended m t v) (last-index m + 1)) (value-appended m t v) (λ y. applied-number y ≡ applied-number m)
+        (λ _. commit-raised-applied (value-appended m t v) (last-index m + 1) ∙ appended-applied m t v long fits) (λ _. appended-applied m t v long fits)
 
 -- POWER
 module _ (many h k : ℕ) (ps : List (List ℕ)) (o : List ℕ) (ordered : an-order ps o ≡ true) (short : length o ≤ length ps)
@@ -267,7 +283,7 @@ module _ (many h k : ℕ) (ps : List (List ℕ)) (o : List ℕ) (ordered : an-or
       pub taken-goes : Going many h (suc k) (ps ++ v ∷ []) (o ++ length ps ∷ []) m₁ f
       taken-goes = taken-going many h k ps o m f r (suc k) (omega arith) ordered v leads fits bs
 
-      taken-unsettled : loaded m₁ .unsettled ≡ true
+      pub taken-unsettled : loaded m₁ .unsettled ≡ true
       unfolding taken
       taken-unsettled =
           ap (λ (x : Machine). x .unsettled)
@@ -278,10 +294,13 @@ module _ (many h k : ℕ) (ps : List (List ℕ)) (o : List ℕ) (ordered : an-or
       on-taken : own .step m (said (propose v)) ≡ own .step m₁ next
       on-taken = on-propose m v (Ok m₁) e ∙ sym (on-next m₁)
 
+      pub taken-runs : (n : ℕ) → runs (suc n) own m s (said (propose v)) [] [] [] ≡ made (suc n) m₁ s
+      taken-runs n = runs-event own Long acts rest own-planned n (said (propose v)) m m₁ s (taken-goes .holds .long) on-taken
+
       pub taken-fine : (n : ℕ) → Fine many h (suc k) (ps ++ v ∷ []) (o ++ length ps ∷ []) f (runs (suc n) own m s (said (propose v)) [] [] [])
       taken-fine n =
           subst (λ (x : Ran). Fine many h (suc k) (ps ++ v ∷ []) (o ++ length ps ∷ []) f x)
-          (sym (runs-event own Long acts rest own-planned n (said (propose v)) m m₁ s (taken-goes .holds .long) on-taken))
+          (sym (taken-runs n))
           (settled-fine many h (suc k) (ps ++ v ∷ []) (o ++ length ps ∷ []) n m₁ s f taken-goes taken-unsettled)
 
       pub taken-ends : (n : ℕ) → 4098 ≤ n → Quiet (runs (suc n) own m s (said (propose v)) [] [] [])
