@@ -27,11 +27,11 @@ pub number-in : (m : List ℕ) (i : ℕ) → 1 ≤ i → i ≤ last-index m → 
 unfolding number-at
 number-in m i a b = cond-true (in-log m i) (at-most (getD m (entry-row i + 1) 0) 4096) 0 (in-log-true m i a b)
 
-number-none : (m : List ℕ) → number-at m 0 ≡ 0
+pub number-none : (m : List ℕ) → number-at m 0 ≡ 0
 unfolding number-at
 number-none m = refl
 
-term-none : (m : List ℕ) → term-at m 0 ≡ 0
+pub term-none : (m : List ℕ) → term-at m 0 ≡ 0
 unfolding term-at
 term-none m = refl
 

@@ -10,3 +10,4 @@ pub mod Runs
 pub mod Worlds
 pub mod Nearer
 pub mod Solo
+pub mod Main

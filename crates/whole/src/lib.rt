@@ -9,3 +9,10 @@ pub fn memory_is_steady() -> u8
 {
     0
 }
+
+/// Whatever happens to one to seven machines, nothing wrong is applied; and one that is alone goes on in calm.
+pub fn whole_stands() -> u8
+    ensures { λ _. ⌜ Whole false own ⌝ }
+{
+    0
+}
