@@ -1,1 +1,4 @@
 pub mod Lengths
+pub mod Lists
+pub mod Halves
+pub mod Rows

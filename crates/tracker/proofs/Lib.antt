@@ -1,0 +1,3 @@
+pub mod Quorums
+pub mod Rows
+pub mod Ballots

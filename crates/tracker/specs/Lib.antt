@@ -1,0 +1,4 @@
+pub mod Majority
+pub mod Progress
+pub mod Votes
+pub mod Cases
