@@ -48,7 +48,14 @@ impl Node {
     }
 
     // One event, act by act, till it is done or refused.
-    fn event(&mut self, rt: &LibcRuntime, kind: u64, a: u64, b: u64, bytes: &[u8]) -> Result<(), AnyError> {
+    fn event(
+        &mut self,
+        rt: &LibcRuntime,
+        kind: u64,
+        a: u64,
+        b: u64,
+        bytes: &[u8],
+    ) -> Result<(), AnyError> {
         let mut told = step(&mut self.memory, kind, a, b, bytes, &mut self.out);
         for _ in 0..MAX_ACTS {
             if !self.act(rt, told)? {

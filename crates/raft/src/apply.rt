@@ -6,7 +6,6 @@ ghost use Rattle.std.specs.declared.option.Option.the-variants.{Some, None};
 ghost use Rattle.raft_log.specs.Layout.{memory-words};
 ghost use Rattle.raft_log.specs.Entries.{decided};
 ghost use Rattle.raft.specs.Apply.{settled, applied-up-to, due, advanced};
-
 use super::header::Machine;
 use super::header::store;
 use raft_log::Number;
@@ -19,13 +18,19 @@ impl Machine {
     pub fn settled(self) -> Machine
         ensures { λ r. ⌜ r ≡ settled self ⌝ }
     {
-        Machine { unsettled: false, ..self }
+        Machine {
+            unsettled: false,
+            ..self
+        }
     }
 
     fn applied_up_to(self, number: Number) -> Machine
         ensures { λ r. ⌜ r ≡ applied-up-to self (number .0) ⌝ }
     {
-        Machine { since: number, ..self }
+        Machine {
+            since: number,
+            ..self
+        }
     }
 }
 
@@ -36,7 +41,11 @@ pub fn due(memory: &[u64]) -> Option<u64>
     ensures room { λ r. ⌜ elim r [ Some k ↦ k < 4096 | None ↦ 0 < 1 ] ⌝ }
 {
     let next = applied(memory).0;
-    if next < number(memory, committed(memory)).0 { Some(next) } else { None }
+    if next < number(memory, committed(memory)).0 {
+        Some(next)
+    } else {
+        None
+    }
 }
 
 /// Notes that a decision was applied.

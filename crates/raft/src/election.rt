@@ -4,7 +4,6 @@ ghost use Prim.Native.Nat.{_≤_};
 ghost use lib.ListN.{length};
 ghost use Rattle.raft_log.specs.Layout.{memory-words};
 ghost use Rattle.raft.specs.Election.{most-of, older, with-role, in-term, led, campaigned, term-entered, next-term-entered, waited, ticked};
-
 use super::header::ClusterSize;
 use super::header::ELECTION_TICKS;
 use super::header::Machine;
@@ -27,7 +26,11 @@ impl Ticks {
     fn older(self) -> Ticks
         ensures { λ r. ⌜ r ≡ older self ⌝ }
     {
-        if self.0 < ELECTION_TICKS { Ticks(self.0 + 1) } else { Ticks(ELECTION_TICKS) }
+        if self.0 < ELECTION_TICKS {
+            Ticks(self.0 + 1)
+        } else {
+            Ticks(ELECTION_TICKS)
+        }
     }
 }
 
@@ -41,7 +44,12 @@ impl Machine {
     fn in_term(self, term: Term, role: Role) -> Machine
         ensures { λ r. ⌜ r ≡ in-term self (term .0) role ⌝ }
     {
-        Machine { term, role, unsettled: true, ..self }
+        Machine {
+            term,
+            role,
+            unsettled: true,
+            ..self
+        }
     }
 }
 
@@ -106,8 +114,18 @@ pub fn tick(memory: &mut [u64])
 {
     let machine = load(memory);
     match machine.role {
-        Role::Follower(elapsed) => wait(memory, machine, elapsed.older(), Role::Follower(elapsed.older())),
-        Role::Candidate(elapsed) => wait(memory, machine, elapsed.older(), Role::Candidate(elapsed.older())),
+        Role::Follower(elapsed) => wait(
+            memory,
+            machine,
+            elapsed.older(),
+            Role::Follower(elapsed.older()),
+        ),
+        Role::Candidate(elapsed) => wait(
+            memory,
+            machine,
+            elapsed.older(),
+            Role::Candidate(elapsed.older()),
+        ),
         Role::Leader => {}
     }
 }

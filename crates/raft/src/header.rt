@@ -4,7 +4,6 @@ ghost use Prim.Native.Nat.{ℕ, _≤_, _<_};
 ghost use lib.ListN.{length};
 ghost use Rattle.raft_log.specs.Layout.{memory-words};
 ghost use Rattle.raft.specs.Header.{at-least, role-of, role-word, elapsed-word, flag-word, loaded, stored};
-
 use raft_log::MachineId;
 use raft_log::Number;
 use raft_log::Term;
@@ -14,11 +13,17 @@ use raft_log::layout::at_most;
 pub const ELECTION_TICKS: u64 = 10;
 
 const SIZE: usize = 0;
+
 const ID: usize = 1;
+
 const TERM: usize = 2;
+
 const ROLE: usize = 3;
+
 const ELAPSED: usize = 4;
+
 const SINCE: usize = 5;
+
 const UNSETTLED: usize = 6;
 
 /// How many machines there are.

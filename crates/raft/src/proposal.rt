@@ -5,7 +5,6 @@ ghost use lib.ListN.{length};
 ghost use Rattle.std.specs.declared.result.Result.the-variants.{Ok, Err};
 ghost use Rattle.raft_log.specs.Layout.{memory-words};
 ghost use Rattle.raft.specs.Proposal.{refusal-number, with-unsettled, own-acked, Proposed};
-
 use super::election::one_is_most;
 use super::header::Machine;
 use super::header::Role;
@@ -43,7 +42,10 @@ impl Machine {
     fn with_unsettled(self) -> Machine
         ensures { λ r. ⌜ r ≡ with-unsettled self ⌝ }
     {
-        Machine { unsettled: true, ..self }
+        Machine {
+            unsettled: true,
+            ..self
+        }
     }
 }
 

@@ -1,12 +1,11 @@
 -- Each neighbour is false: numbers for which it fails.
 use mathlib.Core.Path.{_≡_, refl, ap}
-use mathlib.Core.Bool.{true, false}
 use mathlib.Core.List.{List, [], _∷_}
 use Prim.Native.Nat.{ℕ}
 use native.Mathlib.Omega.{arith}
 use lib.ListN.{length}
 use Rattle.std.proofs.shelf.Tests.{false≢true}
-use Rattle.together.specs.House.{every, any, same, applied, nth-value, all-in-turn, far-after, next-ok, all-apart}
+use Rattle.together.specs.House.{every, any, same, applied, nth-value, all-in-turn, far-after, all-apart}
 use Rattle.statements.specs.Near.{Agree-by-any, Later-in-front, Halves-meet, No-gap-since, Alone-twice}
 
 -- two proposals, of one byte each, and one applied at index 1

@@ -1,12 +1,11 @@
 -- Neighbours of the statements, each with one premise less or weaker: what the statements must not say. Assumes nothing: these are definitions.
 use mathlib.Core.Path.{_≡_}
-use mathlib.Core.Bool.{true, false}
+use mathlib.Core.Bool.{true}
 use mathlib.Core.List.{List, [], _∷_, _++_}
 use Prim.Native.Nat.{ℕ, _*_, _≤_, _<_}
 use lib.Dec.{eqb, ltb}
 use lib.ListN.{length}
 use Rattle.together.specs.House.{every, any, same, Applied, far, all-in-turn, far-after, all-apart, an-order, by-order}
-use Rattle.together.specs.Promise.{Engine, Whole}
 
 -- by two orders that have nothing to do with each other
 unfoldable pub Agree-by-any : Type 0
@@ -34,7 +33,3 @@ No-gap-since =
 -- a machine may be counted twice
 unfoldable pub Alone-twice : Type 0
 Alone-twice = (xs : List ℕ) → every (λ x. ltb x 1) xs ≡ true → 1 < 2 * length xs → xs ≡ 0 ∷ []
-
--- what is right without calm is right with it; this one is not refuted here
-unfoldable pub Calm-less : Type 0
-Calm-less = (e : Engine) → Whole false e → Whole true e

@@ -1,8 +1,8 @@
 // The small statements about machines that decide together: each is what the contract of a function here says.
 ghost use Rattle.together.specs.Promise.{Agree, Later-proposals, Two-halves, No-gap, Calm-more, Alone};
-ghost use Rattle.statements.specs.Near.{Agree-by-any, Later-in-front, Halves-meet, No-gap-since, Alone-twice, Calm-less};
+ghost use Rattle.statements.specs.Near.{Agree-by-any, Later-in-front, Halves-meet, No-gap-since, Alone-twice};
 
-// What two machines applied as the same is the same.
+// What two machines applied at the same index is the same.
 pub fn agree() -> u8
     ensures { λ _. ⌜ Agree ⌝ }
 {
@@ -44,7 +44,7 @@ pub fn alone() -> u8
     0
 }
 
-// The statements say no more than is true: with a premise less each of these is false.
+// The premises are needed: with one less, or a weaker one, each of these is false.
 pub fn premises_are_needed() -> u8
     ensures order { λ _. ⌜ (Agree-by-any → ⊥) ⌝ }
     ensures behind { λ _. ⌜ (Later-in-front → ⊥) ⌝ }

@@ -6,7 +6,6 @@ ghost use Rattle.raft_log.specs.Layout.{memory-words};
 ghost use Rattle.raft.specs.Proposal.{proposed};
 ghost use Rattle.together.specs.Machine.{go-on, after-proposal};
 ghost use Rattle.together.specs.Entry.{Did};
-
 use super::Told;
 use raft::apply::advance;
 use raft::apply::due;

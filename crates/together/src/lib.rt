@@ -140,7 +140,10 @@ mod tests {
 
     impl Lent {
         fn new(heap: Global) -> Result<Lent, AllocError> {
-            Ok(Lent { memory: vec![in heap; 0; MEMORY_WORDS]?, out: vec![in heap; 0; 4096]? })
+            Ok(Lent {
+                memory: vec![in heap; 0; MEMORY_WORDS]?,
+                out: vec![in heap; 0; 4096]?,
+            })
         }
 
         fn told(&mut self, kind: u64, a: u64, b: u64, bytes: &[u8]) -> Told {

@@ -10,7 +10,7 @@ use native.Mathlib.Numerals.{one-add}
 use lib.Dec.{ltb, leb}
 use lib.ListN.{length, getD}
 use borrow.Author.Count.{below-more}
-use Rattle.std.specs.shelf.Lists.{Has, countBy}
+use Rattle.std.specs.shelf.Lists.{Each, Has, countBy}
 use Rattle.std.proofs.shelf.Elements.{has-getD}
 use Rattle.std.proofs.shelf.Sums.{sumBy-cons}
 use Rattle.std.proofs.shelf.Tests.{cond-true, cond-false, ltb-true, ltb-false, le-leb, lt-leb, cases-lt, and-parts, and-cases}
@@ -45,6 +45,21 @@ reached-falls (j ∷ js) k m h =
         | inr b ↦ omega (arith, reached-no m j js below, reached-yes k j js b, reached-falls js k m h)
       ]
       | inr above ↦ omega (arith, reached-yes m j js above, reached-yes k j js (omega arith), reached-falls js k m h)
+    ]
+
+-- as many, and perhaps more, have got to k once they have got further
+pub reached-rises : (earlier later : List ℕ) (k : ℕ) → Each (λ a b. a ≤ b) earlier later → reached earlier k ≤ reached later k
+reached-rises [] [] k h = omega arith
+reached-rises [] (y ∷ ys) k h = absurd h
+reached-rises (x ∷ xs) [] k h = absurd h
+reached-rises (x ∷ xs) (y ∷ ys) k h =
+    let up : x ≤ y = h .0 in
+    elim (cases-lt x k) [
+      | inl below ↦ elim (cases-lt y k) [
+        | inl b ↦ omega (arith, reached-no k x xs below, reached-no k y ys b, reached-rises xs ys k (h .1))
+        | inr b ↦ omega (arith, reached-no k x xs below, reached-yes k y ys b, reached-rises xs ys k (h .1))
+      ]
+      | inr above ↦ omega (arith, reached-yes k x xs above, reached-yes k y ys (omega arith), reached-rises xs ys k (h .1))
     ]
 
 pub reached-none : (js : List ℕ) → reached js 0 ≡ length js

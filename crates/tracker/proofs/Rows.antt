@@ -1,4 +1,4 @@
--- A row of indexes has one committed index, and numbers show which.
+-- A row of indexes has one committed index, numbers show which, and it does not fall.
 use mathlib.Core.Path.{_≡_, refl, ap, subst}
 use mathlib.Core.Bool.{true, false}
 use mathlib.Core.List.{List, []}
@@ -10,13 +10,13 @@ use lib.ListN.{length, getD}
 use Rattle.std.specs.shelf.Lists.{Has}
 use Rattle.std.specs.declared.option.Option.{Option}
 use Rattle.std.specs.declared.option.Option.the-variants.{Some, None}
-use Rattle.std.proofs.shelf.Elements.{has-getD}
+use Rattle.std.proofs.shelf.Elements.{has-getD, length-each}
 use Rattle.std.proofs.shelf.Tests.{ltb-true, ltb-false, leb-true, cases-lt}
 use Rattle.raft_log.specs.declared.Index.{Index}
 use Rattle.tracker.specs.Majority.{reached, Quorum, Committed-says}
-use Rattle.tracker.specs.Cases.{Committed-is}
+use Rattle.tracker.specs.Cases.{Committed-is, Committed-rises}
 use Rattle.tracker.specs.Progress.{index}
-use Rattle.tracker.proofs.Quorums.{reached-falls}
+use Rattle.tracker.proofs.Quorums.{reached-falls, reached-rises}
 
 one-committed : (indices : List ℕ) (r s : Option Index) → Committed-says indices r → Committed-says indices s → s ≡ r
 unfolding Committed-says
@@ -63,3 +63,8 @@ committed-is indices k i few inside at more no-more = (is, λ s h. one-committed
 pub committed-none : Committed-is [] None
 unfolding Committed-is Committed-says
 committed-none = (inl refl, λ s h. one-committed [] None s (inl refl) h)
+
+pub committed-rises : Committed-rises
+unfolding Committed-rises
+committed-rises earlier later j k up a b =
+    b .largest j (omega (arith, a .quorum, reached-rises earlier later j up, length-each (λ x y. x ≤ y) earlier later up))

@@ -3,15 +3,20 @@ use mathlib.Core.Path.{_≡_}
 use mathlib.Core.Bool.{Bool, true, false}
 use mathlib.Core.List.{List}
 use Prim.Native.Nat.{ℕ, _+_, _*_, _≤_, _<_}
+use Rattle.std.specs.shelf.Lists.{Each}
 use Rattle.std.specs.declared.option.Option.{Option}
 use Rattle.raft_log.specs.declared.Index.{Index}
-use Rattle.tracker.specs.Majority.{Committed-says}
+use Rattle.tracker.specs.Majority.{Committed, Committed-says}
 use Rattle.tracker.specs.Votes.{recorded, count-of, tally}
 use Rattle.tracker.specs.declared.majority.VoteResult.the-variants.{Won, Lost}
 
 -- this is the committed index, and no other is
 unfoldable pub Committed-is : List ℕ → Option Index → Type 0
 Committed-is indices r = Committed-says indices r × ((s : Option Index) → Committed-says indices s → s ≡ r)
+
+-- while no voter loses anything the committed index does not fall
+unfoldable pub Committed-rises : Type 0
+Committed-rises = (earlier later : List ℕ) (j k : ℕ) → Each (λ a b. a ≤ b) earlier later → Committed earlier j → Committed later k → j ≤ k
 
 -- a voter's second answer changes nothing
 unfoldable pub Once : Type 0

@@ -1,9 +1,9 @@
-// Facts about the definitions that the contracts use: each is what the contract of a function here says. The names of the rows are those of upstream's cases.
+// Facts about the definitions that the contracts use: each is what the contract of a function here says. Rows go by their ids in the tables of cases.
 ghost use mathlib.Core.Path.{_≡_};
 ghost use mathlib.Core.Bool.{true, false};
 ghost use mathlib.Core.List.{[], _∷_};
 ghost use Rattle.std.specs.declared.option.Option.the-variants.{Some, None};
-ghost use Rattle.tracker.specs.Cases.{Committed-is, Once, Counted-once, Won-by-more, Decided-stays};
+ghost use Rattle.tracker.specs.Cases.{Committed-is, Committed-rises, Once, Counted-once, Won-by-more, Decided-stays};
 ghost use Rattle.tracker.specs.Progress.{progress, index, turned, acknowledged, news, stale, rejected-at};
 ghost use Rattle.tracker.specs.Votes.{tally};
 ghost use Rattle.tracker.specs.declared.majority.VoteResult.the-variants.{Pending, Lost, Won};
@@ -42,6 +42,13 @@ pub fn progress_rows() -> u8
     ensures p021 { λ _. ⌜ stale (index 0) (progress 0 0 Probe) ≡ true ⌝ }
     ensures p025 { λ _. ⌜ rejected-at (index 0) (index 0) (progress 0 1 Probe) ≡ progress 0 1 Probe ⌝ }
     ensures p026 { λ _. ⌜ rejected-at (index 9) (index 2) (progress 0 10 Probe) ≡ progress 0 3 Probe ⌝ }
+{
+    0
+}
+
+// The committed index does not fall.
+pub fn committed_laws() -> u8
+    ensures rises { λ _. ⌜ Committed-rises ⌝ }
 {
     0
 }

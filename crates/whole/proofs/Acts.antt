@@ -98,9 +98,10 @@ module _ (m : List ℕ) (long : Long m) where
   onward-log =
       let a = applied-set-entries (stored m noted) (applied-number m + 1) in
       let b = stored-entries m noted in
-      record
-        { entries = record { last = a .last ∙ b .last; terms = λ i. a .terms i ∙ b .terms i; numbers = λ i. a .numbers i ∙ b .numbers i; held = λ k. a .held k ∙ b .held k }
-        ; commit = applied-set-commit (stored m noted) (applied-number m + 1) ∙ stored-commit m noted }
+      record {
+        entries = record { last = a .last ∙ b .last; terms = λ i. a .terms i ∙ b .terms i; numbers = λ i. a .numbers i ∙ b .numbers i; held = λ k. a .held k ∙ b .held k };
+        commit = applied-set-commit (stored m noted) (applied-number m + 1) ∙ stored-commit m noted;
+      }
 
   pub onward-applied : applied-number m < decided m → applied-number onward ≡ applied-number m + 1
   unfolding advanced
@@ -127,7 +128,7 @@ module _ (m : List ℕ) (long : Long m) where
         let more : decided m - k ≡ suc (decided m - (k + 1)) = omega arith in
         let u : loaded onward .unsettled ≡ false = ap (λ (x : Machine). x .unsettled) onward-loaded ∙ still in
         let left : decisions-from onward (applied-number onward) (decided onward - applied-number onward) ≡ decisions-from m (k + 1) (decided m - (k + 1)) =
-              rw (onward-applied l, same-decided m onward onward-log) (same-decisions m onward (onward-log .entries) (k + 1) (decided m - (k + 1))) in
+        rw (onward-applied l, same-decided m onward onward-log) (same-decisions m onward (onward-log .entries) (k + 1) (decided m - (k + 1))) in
         acts-still m still ∙ (ap (decisions-from m k) more ∙ sym (ap (λ x. applies (k + 1) (value-at m k) ∷ x) (acts-still onward u ∙ left)))
 
     pub acts-done : decided m ≤ applied-number m → acts m ≡ []
@@ -142,9 +143,10 @@ pub data Goes (m : List ℕ) : Type 0 where
 
 pub goes : (m : List ℕ) → Goes m
 goes m =
-    elim (cases-bool (loaded m .unsettled))
-    [ inl u ↦ settling u
-    | inr u ↦ elim (cases-lt (applied-number m) (decided m)) [ inl l ↦ applying u l | inr l ↦ resting u l ] ]
+    elim (cases-bool (loaded m .unsettled)) [
+      | inl u ↦ settling u
+      | inr u ↦ elim (cases-lt (applied-number m) (decided m)) [ inl l ↦ applying u l | inr l ↦ resting u l ]
+    ]
 
 own-next : (m : List ℕ) → own .step m next ≡ go-on m
 unfolding own own-step
@@ -169,11 +171,12 @@ first m a as₁ long eq = by (goes m)
         let ea : a₁ ≡ a = cc in
         let es : acts m₁ ≡ as₁ = cc in
         let em : go-on m .memory ≡ m₁ = ap (λ (s : Step). s .memory) g in
-        record
-          { step = g ∙ (ap (λ x. answer x a₁) (sym em) ∙ ap (answer (go-on m .memory)) ea)
-          ; then = ap acts em ∙ es
-          ; long = subst (λ (x : List ℕ). Long x) (sym em) l
-          ; good = subst (λ (x : Act). Planned-act x) ea p }
+        record {
+          step = g ∙ (ap (λ x. answer x a₁) (sym em) ∙ ap (answer (go-on m .memory)) ea);
+          then = ap acts em ∙ es;
+          long = subst (λ (x : List ℕ). Long x) (sym em) l;
+          good = subst (λ (x : Act). Planned-act x) ea p;
+        }
 
     by : Goes m → First m a as₁
     by (settling u) = this (safe m long) settle (safe-long m long) tt (go-settle m long u) (acts-settle m long u)
@@ -192,9 +195,10 @@ nothing-left m long eq = by (goes m)
 -- THE PLAN of the machine
 pub own-planned : Planned own Long acts rest
 own-planned =
-    record
-      { none = λ m l e. own-next m ∙ nothing-left m l e
-      ; some = λ m a as₁ l e. own-next m ∙ first m a as₁ l e .step
-      ; then = λ m a as₁ l e. first m a as₁ l e .then
-      ; fits = λ m a as₁ l e. first m a as₁ l e .long
-      ; good = λ m a as₁ l e. first m a as₁ l e .good }
+    record {
+      none = λ m l e. own-next m ∙ nothing-left m l e;
+      some = λ m a as₁ l e. own-next m ∙ first m a as₁ l e .step;
+      then = λ m a as₁ l e. first m a as₁ l e .then;
+      fits = λ m a as₁ l e. first m a as₁ l e .long;
+      good = λ m a as₁ l e. first m a as₁ l e .good;
+    }

@@ -48,19 +48,20 @@ module _ (many h k : ℕ) (ps : List (List ℕ)) (o : List ℕ) (m : List ℕ) (
   going-stored k₁ ps₁ o₁ m₀ y hold a more held size id leads term since =
       let x = loaded-stored m₀ y (hold .long) held in
       let ap₀ : applied-number (stored m₀ y) ≡ length o = stored-applied m₀ y ∙ (a ∙ rests-applied) in
-      record
-        { holds = holds-same ps₁ o₁ m₀ (stored m₀ y) (length-stored m₀ y ∙ hold .long) (stored-log m₀ y) hold
-        ; size = ap (λ (z : Machine). z .size .0) x ∙ size
-        ; id = ap (λ (z : Machine). z .id .0) x ∙ id
-        ; leads = λ e. leads (sym (ap (λ (z : Machine). z .role) x) ∙ e)
-        ; term = subst (λ (z : Machine). z .term .0 ≤ k₁) (sym x) term
-        ; since = ap (λ (z : Machine). z .since .0) x ∙ (since ∙ r .going .since)
-        ; turn = subst (λ (j : ℕ). may-apply f (j + 1) ≡ true) (sym (stored-applied m₀ y ∙ a)) (r .going .turn)
-        ; low = omega arith
-        ; reach = λ l. omega (arith, rests-since)
-        ; ever = omega (arith, r .going .ever)
-        ; reached = r .going .reached
-        ; settles = λ _. omega (arith, rests-since, r .going .reached) }
+      record {
+        holds = holds-same ps₁ o₁ m₀ (stored m₀ y) (length-stored m₀ y ∙ hold .long) (stored-log m₀ y) hold;
+        size = ap (λ (z : Machine). z .size .0) x ∙ size;
+        id = ap (λ (z : Machine). z .id .0) x ∙ id;
+        leads = λ e. leads (sym (ap (λ (z : Machine). z .role) x) ∙ e);
+        term = subst (λ (z : Machine). z .term .0 ≤ k₁) (sym x) term;
+        since = ap (λ (z : Machine). z .since .0) x ∙ (since ∙ r .going .since);
+        turn = subst (λ (j : ℕ). may-apply f (j + 1) ≡ true) (sym (stored-applied m₀ y ∙ a)) (r .going .turn);
+        low = omega arith;
+        reach = λ l. omega (arith, rests-since);
+        ever = omega (arith, r .going .ever);
+        reached = r .going .reached;
+        settles = λ _. omega (arith, rests-since, r .going .reached);
+      }
 
   abbrev x : Machine
   x = loaded m
@@ -83,9 +84,9 @@ module _ (many h k : ℕ) (ps : List (List ℕ)) (o : List ℕ) (m : List ℕ) (
       leads-now one =
           cond-both (empty-fits m) (stored (commit-raised (empty-appended m t) (empty-place m)) (in-term x t Leader)) (stored m (in-term x t (Follower (ticks 0)))) (λ y. Goes-on y)
           (λ e.
-              going-stored k₁ ps o (commit-raised (empty-appended m t) (empty-place m)) (in-term x t Leader) (holds-led ps o m t e (r .going .holds))
-              (commit-raised-applied (empty-appended m t) (empty-place m) ∙ empty-applied m t (r .going .holds .long) e) (omega arith)
-              (record { some = loaded-held m .some; waits = omega arith }) (r .going .size) (r .going .id) (λ _. one) fits refl)
+          going-stored k₁ ps o (commit-raised (empty-appended m t) (empty-place m)) (in-term x t Leader) (holds-led ps o m t e (r .going .holds))
+          (commit-raised-applied (empty-appended m t) (empty-place m) ∙ empty-applied m t (r .going .holds .long) e) (omega arith)
+          (record { some = loaded-held m .some; waits = omega arith }) (r .going .size) (r .going .id) (λ _. one) fits refl)
           (λ _. new-term (Follower (ticks 0)) (omega arith) (not-leader (ticks 0)))
 
       stands : Goes-on (campaigned m x t)
@@ -135,9 +136,9 @@ module _ (many h k : ℕ) (ps : List (List ℕ)) (o : List ℕ) (m : List ℕ) (
       subst (λ (m₀ : List ℕ). Going many h k₁ (ps ++ v ∷ []) (o ++ length ps ∷ []) (stored m₀ (with-unsettled x)) f)
       (sym (cond-true (most-of 1 (x .size .0)) (commit-raised (value-appended m t v) (last-index m + 1)) (value-appended m t v) most))
       (going-stored k₁ (ps ++ v ∷ []) (o ++ length ps ∷ []) (commit-raised (value-appended m t v) (last-index m + 1)) (with-unsettled x)
-       (holds-taken ps o ordered m v t fits bs (r .going .holds))
-       (commit-raised-applied (value-appended m t v) (last-index m + 1) ∙ appended-applied m t v (r .going .holds .long) fits) (omega (arith, length-push o (length ps)))
-       (record { some = loaded-held m .some; waits = loaded-held m .waits }) (r .going .size) (r .going .id) (λ _. one) (omega (arith, r .going .term)) refl)
+      (holds-taken ps o ordered m v t fits bs (r .going .holds))
+      (commit-raised-applied (value-appended m t v) (last-index m + 1) ∙ appended-applied m t v (r .going .holds .long) fits) (omega (arith, length-push o (length ps)))
+      (record { some = loaded-held m .some; waits = loaded-held m .waits }) (r .going .size) (r .going .id) (λ _. one) (omega (arith, r .going .term)) refl)
 
 -- POWER COMES
 module _ (many h k : ℕ) (ps : List (List ℕ)) (o : List ℕ) (s : List ℕ) (reach : ℕ) (g : Stable many h k ps o s (far reach [])) (ever : reach ≤ length o) (there : h < many) (few : many ≤ 7) where
@@ -171,29 +172,31 @@ module _ (many h k : ℕ) (ps : List (List ℕ)) (o : List ℕ) (s : List ℕ) (
   power-log =
       let a = applied-set-entries m₀ (applied-number s - 1) in
       let b = stored-entries s woken in
-      record
-        { entries = record { last = a .last ∙ b .last; terms = λ i. a .terms i ∙ b .terms i; numbers = λ i. a .numbers i ∙ b .numbers i; held = λ i. a .held i ∙ b .held i }
-        ; commit = applied-set-commit m₀ (applied-number s - 1) ∙ stored-commit s woken }
+      record {
+        entries = record { last = a .last ∙ b .last; terms = λ i. a .terms i ∙ b .terms i; numbers = λ i. a .numbers i ∙ b .numbers i; held = λ i. a .held i ∙ b .held i };
+        commit = applied-set-commit m₀ (applied-number s - 1) ∙ stored-commit s woken;
+      }
 
   pub power-going : (k₁ : ℕ) → k ≤ k₁ → Going many h k₁ ps o (powered s h many) (far reach [])
   unfolding next-ok last-since
   power-going k₁ later =
       subst (λ (m : List ℕ). Going many h k₁ ps o m (far reach [])) (sym power-is)
-      (record
-        { holds = holds-same ps o s m₁ (length-applied-set m₀ (applied-number s - 1) ∙ power-long) power-log (g .holds)
-        ; size = ap (λ (z : Machine). z .size .0) power-loaded
-        ; id = ap (λ (z : Machine). z .id .0) power-loaded
-        ; leads = λ e. not-leader (ticks 0) (sym (ap (λ (z : Machine). z .role) power-loaded) ∙ e)
-        ; term = subst (λ (z : Machine). z .term .0 ≤ k₁) (sym power-loaded) (omega (arith, g .term))
-        ; since = ap (λ (z : Machine). z .since .0) power-loaded
-        ; turn =
+      (record {
+        holds = holds-same ps o s m₁ (length-applied-set m₀ (applied-number s - 1) ∙ power-long) power-log (g .holds);
+        size = ap (λ (z : Machine). z .size .0) power-loaded;
+        id = ap (λ (z : Machine). z .id .0) power-loaded;
+        leads = λ e. not-leader (ticks 0) (sym (ap (λ (z : Machine). z .role) power-loaded) ∙ e);
+        term = subst (λ (z : Machine). z .term .0 ≤ k₁) (sym power-loaded) (omega (arith, g .term));
+        since = ap (λ (z : Machine). z .since .0) power-loaded;
+        turn =
             and-from (leb 1 (applied-number m₁ + 1)) (leb (applied-number m₁ + 1) (suc reach)) (le-leb 1 (applied-number m₁ + 1) (omega arith))
-            (le-leb (applied-number m₁ + 1) (suc reach) (omega (arith, power-applied, g .applied)))
-        ; low = omega (arith, power-applied, g .applied)
-        ; reach = λ l. omega (arith, power-applied, g .applied)
-        ; ever = ever
-        ; reached = omega arith
-        ; settles = λ u. absurd (true≢false (sym u ∙ ap (λ (z : Machine). z .unsettled) power-loaded)) })
+            (le-leb (applied-number m₁ + 1) (suc reach) (omega (arith, power-applied, g .applied)));
+        low = omega (arith, power-applied, g .applied);
+        reach = λ l. omega (arith, power-applied, g .applied);
+        ever = ever;
+        reached = omega arith;
+        settles = λ u. absurd (true≢false (sym u ∙ ap (λ (z : Machine). z .unsettled) power-loaded));
+      })
 
 -- what is safe stays so as terms begin, and as more is proposed
 pub stable-later : (many h k k₁ : ℕ) (ps : List (List ℕ)) (o s : List ℕ) (f : Far) → k ≤ k₁ → Stable many h k ps o s f → Stable many h k₁ ps o s f

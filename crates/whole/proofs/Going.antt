@@ -145,19 +145,20 @@ module _ (many h k : ℕ) (ps : List (List ℕ)) (o : List ℕ) where
       let long = g .holds .long in
       let x = safe-loaded m long in
       let a = stored-applied m (settled (loaded m)) in
-      record
-        { holds = holds-same ps o m (safe m long) (safe-long m long) (stored-log m (settled (loaded m))) (g .holds)
-        ; size = ap (λ (y : Machine). y .size .0) x ∙ g .size
-        ; id = ap (λ (y : Machine). y .id .0) x ∙ g .id
-        ; leads = λ e. g .leads (sym (ap (λ (y : Machine). y .role) x) ∙ e)
-        ; term = subst (λ (y : Machine). y .term .0 ≤ k) (sym x) (g .term)
-        ; since = ap (λ (y : Machine). y .since .0) x ∙ g .since
-        ; turn = subst (λ (j : ℕ). may-apply f (j + 1) ≡ true) (sym a) (g .turn)
-        ; low = omega (arith, g .low)
-        ; reach = λ l. g .reach (omega arith)
-        ; ever = g .ever
-        ; reached = g .reached
-        ; settles = λ u. absurd (true≢false (sym u ∙ ap (λ (y : Machine). y .unsettled) x)) }
+      record {
+        holds = holds-same ps o m (safe m long) (safe-long m long) (stored-log m (settled (loaded m))) (g .holds);
+        size = ap (λ (y : Machine). y .size .0) x ∙ g .size;
+        id = ap (λ (y : Machine). y .id .0) x ∙ g .id;
+        leads = λ e. g .leads (sym (ap (λ (y : Machine). y .role) x) ∙ e);
+        term = subst (λ (y : Machine). y .term .0 ≤ k) (sym x) (g .term);
+        since = ap (λ (y : Machine). y .since .0) x ∙ g .since;
+        turn = subst (λ (j : ℕ). may-apply f (j + 1) ≡ true) (sym a) (g .turn);
+        low = omega (arith, g .low);
+        reach = λ l. g .reach (omega arith);
+        ever = g .ever;
+        reached = g .reached;
+        settles = λ u. absurd (true≢false (sym u ∙ ap (λ (y : Machine). y .unsettled) x));
+      }
 
   safe-stable : (m : List ℕ) (f : Far) (g : Going m f) → loaded m .unsettled ≡ true → Stable (safe m (g .holds .long)) f
   safe-stable m f g u =
@@ -178,19 +179,20 @@ module _ (many h k : ℕ) (ps : List (List ℕ)) (o : List ℕ) where
         let long = g .holds .long in
         let x = onward-loaded m long in
         let a = onward-applied m long l in
-        record
-          { holds = holds-same ps o m (onward m long) (onward-long m long) (onward-log m long) (g .holds)
-          ; size = ap (λ (y : Machine). y .size .0) x ∙ g .size
-          ; id = ap (λ (y : Machine). y .id .0) x ∙ g .id
-          ; leads = λ e. g .leads (sym (ap (λ (y : Machine). y .role) x) ∙ e)
-          ; term = subst (λ (y : Machine). y .term .0 ≤ k) (sym x) (g .term)
-          ; since = ap (λ (y : Machine). y .since .0) x
-          ; turn = eq-eqb (applied-number (onward m long) + 1) (suc (j + 1)) (omega arith)
-          ; low = omega (arith, within)
-          ; reach = λ b. omega (arith, within)
-          ; ever = larger-le (f .ever) (j + 1) (length o) (g .ever) (omega (arith, within))
-          ; reached = larger-right (f .ever) (j + 1)
-          ; settles = λ e. absurd (true≢false (sym e ∙ (ap (λ (y : Machine). y .unsettled) x ∙ u))) }
+        record {
+          holds = holds-same ps o m (onward m long) (onward-long m long) (onward-log m long) (g .holds);
+          size = ap (λ (y : Machine). y .size .0) x ∙ g .size;
+          id = ap (λ (y : Machine). y .id .0) x ∙ g .id;
+          leads = λ e. g .leads (sym (ap (λ (y : Machine). y .role) x) ∙ e);
+          term = subst (λ (y : Machine). y .term .0 ≤ k) (sym x) (g .term);
+          since = ap (λ (y : Machine). y .since .0) x;
+          turn = eq-eqb (applied-number (onward m long) + 1) (suc (j + 1)) (omega arith);
+          low = omega (arith, within);
+          reach = λ b. omega (arith, within);
+          ever = larger-le (f .ever) (j + 1) (length o) (g .ever) (omega (arith, within));
+          reached = larger-right (f .ever) (j + 1);
+          settles = λ e. absurd (true≢false (sym e ∙ (ap (λ (y : Machine). y .unsettled) x ∙ u)));
+        }
 
     stable-onward : (s : List ℕ) → Stable s f → Stable s (got-to f (j + 1))
     stable-onward s g₁ = record { holds = g₁ .holds; applied = omega (arith, g₁ .applied, larger-left (f .ever) (j + 1)); term = g₁ .term }
@@ -205,14 +207,15 @@ module _ (many h k : ℕ) (ps : List (List ℕ)) (o : List ℕ) where
     fine-first : (r : Ran) → Fine (got-to f (j + 1)) r → Fine f (after-first (applied (j + 1) (value-at m j)) r)
     unfolding all-in-turn far-after every
     fine-first r z =
-        record
-          { flew = z .flew
-          ; showed = z .showed
-          ; turn = and-from (may-apply f (j + 1)) (all-in-turn (got-to f (j + 1)) (r .did)) (g .turn) (z .turn)
-          ; by = and-from (by-order ps o (applied (j + 1) (value-at m j))) (every (by-order ps o) (r .did)) by-it (z .by)
-          ; ever = z .ever
-          ; stable = z .stable
-          ; stays = z .stays }
+        record {
+          flew = z .flew;
+          showed = z .showed;
+          turn = and-from (may-apply f (j + 1)) (all-in-turn (got-to f (j + 1)) (r .did)) (g .turn) (z .turn);
+          by = and-from (by-order ps o (applied (j + 1) (value-at m j))) (every (by-order ps o) (r .did)) by-it (z .by);
+          ever = z .ever;
+          stable = z .stable;
+          stays = z .stays;
+        }
 
   -- WHAT IS DUE IS DONE, as far as power lasts
   pub made-fine : (n : ℕ) (m s : List ℕ) (f : Far) → Going m f → Stable s f → Fine f (made n m s)
@@ -265,5 +268,5 @@ made-first n m s long u l =
     let still : loaded (safe m long) .unsettled ≡ false = ap (λ (x : Machine). x .unsettled) (safe-loaded m long) in
     made-settle (suc n) m s long u
     ∙ (made-apply n (safe m long) (safe m long) (safe-long m long) still (omega (arith, same-decided m (safe m long) q))
-       ∙ ap (λ (y : Applied). after-first y (made n (onward (safe m long) (safe-long m long)) (safe m long)))
-           (ap (λ j. applied (j + 1) (value-at (safe m long) j)) a ∙ ap (applied (applied-number m + 1)) (q .entries .held (applied-number m))))
+    ∙ ap (λ (y : Applied). after-first y (made n (onward (safe m long) (safe-long m long)) (safe m long)))
+    (ap (λ j. applied (j + 1) (value-at (safe m long) j)) a ∙ ap (applied (applied-number m + 1)) (q .entries .held (applied-number m))))

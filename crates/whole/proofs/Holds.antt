@@ -45,24 +45,26 @@ same-roomy m m₁ s r =
 -- memory with the same log
 pub holds-same : (ps : List (List ℕ)) (o m m₁ : List ℕ) → Long m₁ → Same-log m m₁ → Holds ps o m → Holds ps o m₁
 holds-same ps o m m₁ l s h =
-    record
-      { long = l
-      ; roomy = same-roomy m m₁ (s .entries) (h .roomy)
-      ; count = same-values m m₁ (s .entries) ∙ h .count
-      ; all = s .commit ∙ (h .all ∙ sym (s .entries .last))
-      ; held = λ i b. s .entries .held i ∙ h .held i b }
+    record {
+      long = l;
+      roomy = same-roomy m m₁ (s .entries) (h .roomy);
+      count = same-values m m₁ (s .entries) ∙ h .count;
+      all = s .commit ∙ (h .all ∙ sym (s .entries .last));
+      held = λ i b. s .entries .held i ∙ h .held i b;
+    }
 
 -- all of a log is decided at once
 committed-all : (ps : List (List ℕ)) (o m : List ℕ) (i : ℕ) → Long m → Roomy m → values m ≡ length o → last-index m ≡ i → ((j : ℕ) → j < length o → value-at m j ≡ nth-value ps (getD o j 0)) →
     Holds ps o (commit-raised m i)
 committed-all ps o m i long roomy count last held =
     let s = commit-raised-entries m i in
-    record
-      { long = length-commit-raised m i ∙ long
-      ; roomy = same-roomy m (commit-raised m i) s roomy
-      ; count = same-values m (commit-raised m i) s ∙ count
-      ; all = commit-raised-up m i long (omega (arith, commit-most m)) (omega arith) ∙ (sym last ∙ sym (s .last))
-      ; held = λ j b. s .held j ∙ held j b }
+    record {
+      long = length-commit-raised m i ∙ long;
+      roomy = same-roomy m (commit-raised m i) s roomy;
+      count = same-values m (commit-raised m i) s ∙ count;
+      all = commit-raised-up m i long (omega (arith, commit-most m)) (omega arith) ∙ (sym last ∙ sym (s .last));
+      held = λ j b. s .held j ∙ held j b;
+    }
 
 -- A LEADER'S EMPTY ENTRY changes nothing of what is decided
 pub holds-led : (ps : List (List ℕ)) (o m : List ℕ) (t : ℕ) → empty-fits m ≡ true → Holds ps o m → Holds ps o (commit-raised (empty-appended m t) (empty-place m))
@@ -72,9 +74,10 @@ holds-led ps o m t f h =
 
 bytes-are : (v : List ℕ) → are-bytes v ≡ true → Bytes v
 bytes-are v e i =
-    elim (cases-lt i (length v))
-    [ inl l ↦ ltb-true (getD v i 0) 256 (every-at (λ b. ltb b 256) v i 0 e l)
-    | inr l ↦ rw (getD-past v i 0 l) (omega arith) ]
+    elim (cases-lt i (length v)) [
+      | inl l ↦ ltb-true (getD v i 0) 256 (every-at (λ b. ltb b 256) v i 0 e l)
+      | inr l ↦ rw (getD-past v i 0 l) (omega arith)
+    ]
 
 -- A PROPOSAL stands last in the order, and is decided
 module _ (ps : List (List ℕ)) (o : List ℕ) (ordered : an-order ps o ≡ true) where
@@ -95,12 +98,13 @@ module _ (ps : List (List ℕ)) (o : List ℕ) (ordered : an-order ps o ≡ true
     where
       held : (i : ℕ) → i < length (o ++ length ps ∷ []) → value-at (value-appended m t v) i ≡ nth-value (ps ++ v ∷ []) (getD (o ++ length ps ∷ []) i 0)
       held i l =
-          elim (cases-lt i (length o))
-          [ inl b ↦
-              appended-held m t v (h .long) f i (omega (arith, h .count))
-              ∙ (h .held i b ∙ (sym (nth-front ps v (getD o i 0) (order-at i b)) ∙ ap (nth-value (ps ++ v ∷ [])) (sym (getD-append-left o (length ps ∷ []) 0 i b))))
-          | inr b ↦
-              let e : i ≡ values m = omega (arith, length-push o (length ps), h .count) in
-              let q : length o ≡ i = omega (arith, length-push o (length ps)) in
-              ap (value-at (value-appended m t v)) e
-              ∙ (appended-value m t v (h .long) f (bytes-are v bs) ∙ (sym (nth-last ps v) ∙ ap (nth-value (ps ++ v ∷ [])) (sym (getD-push o (length ps) 0 i q)))) ]
+          elim (cases-lt i (length o)) [
+            | inl b ↦
+                appended-held m t v (h .long) f i (omega (arith, h .count))
+                ∙ (h .held i b ∙ (sym (nth-front ps v (getD o i 0) (order-at i b)) ∙ ap (nth-value (ps ++ v ∷ [])) (sym (getD-append-left o (length ps ∷ []) 0 i b))))
+            | inr b ↦
+                let e : i ≡ values m = omega (arith, length-push o (length ps), h .count) in
+                let q : length o ≡ i = omega (arith, length-push o (length ps)) in
+                ap (value-at (value-appended m t v)) e
+                ∙ (appended-value m t v (h .long) f (bytes-are v bs) ∙ (sym (nth-last ps v) ∙ ap (nth-value (ps ++ v ∷ [])) (sym (getD-push o (length ps) 0 i q))))
+          ]

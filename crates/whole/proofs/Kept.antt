@@ -32,11 +32,13 @@ pub keeps-right :
     Right calm e w is
 unfolding Right
 keeps-right calm e I h [] k w l i = λ c. h .settles k w (omega arith) i c
-keeps-right calm e I h (whole t ∷ is) k w l i =
-    (λ c. h .settles k w (omega arith) i c,
-     λ p. let g = h .whole-keeps k w t (omega arith) i p in
-        (g .acts, g .order, g .ends, g .right, keeps-right calm e I h is (suc k) (after-thing w t (thing-ran (g .acts) e w t) true (g .order)) (omega arith) (g .kept)))
-keeps-right calm e I h (cut t n ∷ is) k w l i =
-    (λ c. h .settles k w (omega arith) i c,
-     λ p. let g = h .cut-keeps k w t n (omega arith) i p in
-        (g .order, g .right, keeps-right calm e I h is (suc k) (after-thing w t (thing-ran n e w t) false (g .order)) (omega arith) (g .kept)))
+keeps-right calm e I h (whole t ∷ is) k w l i = (
+  λ c. h .settles k w (omega arith) i c,
+  λ p. let g = h .whole-keeps k w t (omega arith) i p in
+      (g .acts, g .order, g .ends, g .right, keeps-right calm e I h is (suc k) (after-thing w t (thing-ran (g .acts) e w t) true (g .order)) (omega arith) (g .kept)),
+)
+keeps-right calm e I h (cut t n ∷ is) k w l i = (
+  λ c. h .settles k w (omega arith) i c,
+  λ p. let g = h .cut-keeps k w t n (omega arith) i p in
+      (g .order, g .right, keeps-right calm e I h is (suc k) (after-thing w t (thing-ran n e w t) false (g .order)) (omega arith) (g .kept)),
+)

@@ -53,37 +53,45 @@ start-term = start-at 2
 
 start-holds : Holds [] [] start
 start-holds =
-    record
-      { long = length-start
-      ; roomy = omega (arith, start-last)
-      ; count = start-values
-      ; all = omega (arith, start-last, commit-most start)
-      ; held = λ i l. absurd (omega arith) }
+    record {
+      long = length-start;
+      roomy = omega (arith, start-last);
+      count = start-values;
+      all = omega (arith, start-last, commit-most start);
+      held = λ i l. absurd (omega arith);
+    }
 
 abbrev first : Machine
 first = machine [] start false (far 0 [])
 
 first-sound : (many h : ℕ) → Sound many h 0 [] [] first
 first-sound many h =
-    record
-      { stable = record { holds = start-holds; applied = omega (arith, start-applied); term = omega (arith, start-term) }
-      ; ever = omega arith
-      ; live = λ u. absurd (false≢true u) }
+    record {
+      stable = record { holds = start-holds; applied = omega (arith, start-applied); term = omega (arith, start-term) };
+      ever = omega arith;
+      live = λ u. absurd (false≢true u);
+    }
 
 start-good : (many : ℕ) → many ≤ 7 → Good many 0 (world (so-many many first) [] [] [] [])
 unfolding every all-apart
 start-good many few =
-    record
-      { few = few; number = length-so-many many first; wire = refl; ordered = refl; short = omega arith
-      ; all = λ h l. subst (λ (x : Machine). Sound many h 0 [] [] x) (sym (at-so-many many first h l)) (first-sound many h) }
+    record {
+      few = few;
+      number = length-so-many many first;
+      wire = refl;
+      ordered = refl;
+      short = omega arith;
+      all = λ h l. subst (λ (x : Machine). Sound many h 0 [] [] x) (sym (at-so-many many first h l)) (first-sound many h);
+    }
 
 -- WHATEVER HAPPENS
 keeps : (many : ℕ) → Keeps (eqb many 1) own (Good many)
 keeps many =
-    record
-      { settles = λ k w l g c. calm-alone many k w l g c
-      ; whole-keeps = λ k w t l g p. whole-kept many k w g t p
-      ; cut-keeps = λ k w t n l g p. cut-kept many k w g t n p }
+    record {
+      settles = λ k w l g c. calm-alone many k w l g c;
+      whole-keeps = λ k w t l g p. whole-kept many k w g t p;
+      cut-keeps = λ k w t n l g p. cut-kept many k w g t n p;
+    }
 
 start-is : own .start ≡ start
 unfolding own
@@ -91,7 +99,8 @@ start-is = refl
 
 pub whole-own : Whole false own
 unfolding Whole
-whole-own =
-    (steady,
-     λ many is l₁ l₂ l₃. subst (λ (s : List ℕ). Right (eqb many 1) own (world (so-many many (machine [] s false (far 0 []))) [] [] [] []) is) (sym start-is)
-        (keeps-right (eqb many 1) own (Good many) (keeps many) is 0 (world (so-many many first) [] [] [] []) (omega arith) (start-good many l₂)))
+whole-own = (
+  steady,
+  λ many is l₁ l₂ l₃. subst (λ (s : List ℕ). Right (eqb many 1) own (world (so-many many (machine [] s false (far 0 []))) [] [] [] []) is) (sym start-is)
+      (keeps-right (eqb many 1) own (Good many) (keeps many) is 0 (world (so-many many first) [] [] [] []) (omega arith) (start-good many l₂)),
+)

@@ -45,8 +45,8 @@ module _ (k : ℕ) (ps : List (List ℕ)) (o : List ℕ) (m : List ℕ) (f : Far
       let f₁ = roomy-fits m (r .going .holds .roomy) in
       ap (λ y. loaded y .role) (cond-true (empty-fits m) (stored (commit-raised (empty-appended m t) (empty-place m)) (in-term x t Leader)) (stored m (in-term x t (Follower (ticks 0)))) f₁)
       ∙ ap (λ (y : Machine). y .role)
-          (loaded-stored (commit-raised (empty-appended m t) (empty-place m)) (in-term x t Leader) (length-commit-raised (empty-appended m t) (empty-place m) ∙ (length-empty m t long f₁ ∙ long))
-           (record { some = loaded-held m .some; waits = omega arith }))
+      (loaded-stored (commit-raised (empty-appended m t) (empty-place m)) (in-term x t Leader) (length-commit-raised (empty-appended m t) (empty-place m) ∙ (length-empty m t long f₁ ∙ long))
+      (record { some = loaded-held m .some; waits = omega arith }))
 
   leads-campaign : (t : ℕ) → Leads (campaigned m x t)
   unfolding campaigned
@@ -74,25 +74,27 @@ module _ (k : ℕ) (ps : List (List ℕ)) (o : List ℕ) (m : List ℕ) (f : Far
 
   waits-nearer : (e : Ticks) (role : Ticks → Role) → ((y : Ticks) → left (role y) ≡ 10 - y .0) → ((y : Ticks) → elapsed-word (role y) ≡ y .0) → Nearer (10 - e .0) (waited m x (older e) (role (older e)))
   waits-nearer e role is word =
-      elim (cases-lt (older e .0) 10)
-      [ inl l ↦
-          let shape : waited m x (older e) (role (older e)) ≡ stored m (with-role x (role (older e))) =
-                cond-true (ltb (older e .0) 10) (stored m (with-role x (role (older e)))) (next-term-entered m x) (lt-ltb (older e .0) 10 l) in
-          let held : Held (with-role x (role (older e))) = record { some = loaded-held m .some; waits = omega (arith, word (older e)) } in
-          let now-role : loaded (waited m x (older e) (role (older e))) .role ≡ role (older e) =
-                ap (λ y. loaded y .role) shape ∙ ap (λ (y : Machine). y .role) (loaded-stored m (with-role x (role (older e))) long held) in
-          inl (rw (now-role, is (older e)) (shrinks l))
-      | inr l ↦
-          inr
-          (ap (λ y. loaded y .role) (cond-false (ltb (older e .0) 10) (stored m (with-role x (role (older e)))) (next-term-entered m x) (le-ltb (older e .0) 10 l)) ∙ leads-next) ]
+      elim (cases-lt (older e .0) 10) [
+        | inl l ↦
+            let shape : waited m x (older e) (role (older e)) ≡ stored m (with-role x (role (older e))) =
+            cond-true (ltb (older e .0) 10) (stored m (with-role x (role (older e)))) (next-term-entered m x) (lt-ltb (older e .0) 10 l) in
+            let held : Held (with-role x (role (older e))) = record { some = loaded-held m .some; waits = omega (arith, word (older e)) } in
+            let now-role : loaded (waited m x (older e) (role (older e))) .role ≡ role (older e) =
+            ap (λ y. loaded y .role) shape ∙ ap (λ (y : Machine). y .role) (loaded-stored m (with-role x (role (older e))) long held) in
+            inl (rw (now-role, is (older e)) (shrinks l))
+        | inr l ↦
+            inr
+            (ap (λ y. loaded y .role) (cond-false (ltb (older e .0) 10) (stored m (with-role x (role (older e)))) (next-term-entered m x) (le-ltb (older e .0) 10 l)) ∙ leads-next)
+      ]
     where
       shrinks : older e .0 < 10 → 10 - older e .0 < 10 - e .0
       shrinks l =
-          elim (cases-lt (e .0) 10)
-          [ inl b ↦ let q : older e ≡ ticks (e .0 + 1) = cond-true (ltb (e .0) 10) (ticks (e .0 + 1)) (ticks 10) (lt-ltb (e .0) 10 b) in
-              let z : older e .0 ≡ e .0 + 1 = ap (λ (y : Ticks). y .0) q in omega arith
-          | inr b ↦ let q : older e ≡ ticks 10 = cond-false (ltb (e .0) 10) (ticks (e .0 + 1)) (ticks 10) (le-ltb (e .0) 10 b) in
-              let z : older e .0 ≡ 10 = ap (λ (y : Ticks). y .0) q in absurd (omega arith) ]
+          elim (cases-lt (e .0) 10) [
+            | inl b ↦ let q : older e ≡ ticks (e .0 + 1) = cond-true (ltb (e .0) 10) (ticks (e .0 + 1)) (ticks 10) (lt-ltb (e .0) 10 b) in
+                let z : older e .0 ≡ e .0 + 1 = ap (λ (y : Ticks). y .0) q in omega arith
+            | inr b ↦ let q : older e ≡ ticks 10 = cond-false (ltb (e .0) 10) (ticks (e .0 + 1)) (ticks 10) (le-ltb (e .0) 10 b) in
+                let z : older e .0 ≡ 10 = ap (λ (y : Ticks). y .0) q in absurd (omega arith)
+          ]
 
   tick-nearer : (role : Role) → x .role ≡ role → Nearer (left role) (tick-as m x role)
   tick-nearer (Follower e) q = waits-nearer e Follower (λ y. refl) (λ y. refl)

@@ -56,9 +56,16 @@ pub record Went (many h k : ℕ) (ps : List (List ℕ)) (o : List ℕ) (f : Far)
 abbrev pub went-fine : (many h k : ℕ) (ps : List (List ℕ)) (o : List ℕ) (f : Far) (r : Ran) (ps₁ : List (List ℕ)) (o₁ : List ℕ) → Grown many ps o ps₁ o₁ → Fine many h k ps₁ o₁ f r →
     Went many h k ps o f r ps₁
 went-fine many h k ps o f r ps₁ o₁ g z =
-    record
-      { o₁ = o₁; grown = g; flew = z .flew; turn = z .turn; by = z .by; ever = z .ever; stable = z .stable
-      ; stays = elim (z .stays) [ inl e ↦ inl e | inr e ↦ inr (e .1) ] }
+    record {
+      o₁ = o₁;
+      grown = g;
+      flew = z .flew;
+      turn = z .turn;
+      by = z .by;
+      ever = z .ever;
+      stable = z .stable;
+      stays = elim (z .stays) [ inl e ↦ inl e | inr e ↦ inr (e .1) ];
+    }
 
 run-none : (m s : List ℕ) (ev : Event) → runs 0 own m s ev [] [] [] ≡ ran m s [] [] [] 1000
 unfolding runs
@@ -170,23 +177,23 @@ taken-applied m v fits long =
     let t : ℕ = loaded m .term .0 in
     stored-applied (own-acked (value-appended m t v) (loaded m) (last-index m + 1)) (with-unsettled (loaded m))
     ∙ cond-both (most-of 1 (loaded m .size .0)) (commit-raised (value-appended m t v) (last-index m + 1)) (value-appended m t v) (λ y. applied-number y ≡ applied-number m)
-        (λ _. commit-raised-applied (value-appended m t v) (last-index m + 1) ∙ appended-applied m t v long fits) (λ _. appended-applied m t v long fits)
+    (λ _. commit-raised-applied (value-appended m t v) (last-index m + 1) ∙ appended-applied m t v long fits) (λ _. appended-applied m t v long fits)
 
 -- POWER
 module _ (many h k : ℕ) (ps : List (List ℕ)) (o : List ℕ) (ordered : an-order ps o ≡ true) (short : length o ≤ length ps)
-         (s : List ℕ) (reach : ℕ) (g : Stable many h k ps o s (far reach [])) (ever : reach ≤ length o) (there : h < many) (few : many ≤ 7) where
+    (s : List ℕ) (reach : ℕ) (g : Stable many h k ps o s (far reach [])) (ever : reach ≤ length o) (there : h < many) (few : many ≤ 7) where
   pub went-power : (n : ℕ) → Went many h (suc k) ps o (far reach []) (runs n own s s (on h many) [] [] []) ps
   went-power n =
       went-fine many h (suc k) ps o (far reach []) _ ps o (grown-none many h (suc k) ps o ordered short)
       (quiet-event many h (suc k) ps o ordered short n (on h many) s (powered s h many) s (far reach []) (on-power s h many)
-       (power-going many h k ps o s reach g ever there few (suc k) (omega arith)) (stable-later many h k (suc k) ps o s (far reach []) (omega arith) g))
+      (power-going many h k ps o s reach g ever there few (suc k) (omega arith)) (stable-later many h k (suc k) ps o s (far reach []) (omega arith) g))
 
   pub ends-power : (n : ℕ) → 4098 ≤ n → Quiet (runs (suc n) own s s (on h many) [] [] [])
   ends-power n l =
       event-ends n (on h many) s (powered s h many) s l (power-going many h k ps o s reach g ever there few (suc k) (omega arith) .holds .long) (on-power s h many)
 
 module _ (many h k : ℕ) (ps : List (List ℕ)) (o : List ℕ) (ordered : an-order ps o ≡ true) (short : length o ≤ length ps)
-         (m s : List ℕ) (f : Far) (r : Rests many h k ps o m f) (g : Stable many h k ps o s f) where
+    (m s : List ℕ) (f : Far) (r : Rests many h k ps o m f) (g : Stable many h k ps o s f) where
   stable : Stable many h (suc k) ps o s f
   stable = stable-later many h k (suc k) ps o s f (omega arith) g
 
@@ -197,10 +204,11 @@ module _ (many h k : ℕ) (ps : List (List ℕ)) (o : List ℕ) (ordered : an-or
   rests-later : Rests many h (suc k) ps o m f
   rests-later =
       let x = r .going in
-      record
-        { going = record { holds = x .holds; size = x .size; id = x .id; leads = x .leads; term = omega (arith, x .term); since = x .since; turn = x .turn; low = x .low; reach = x .reach; ever = x .ever; reached = x .reached; settles = x .settles }
-        ; still = r .still
-        ; all = r .all }
+      record {
+        going = record { holds = x .holds; size = x .size; id = x .id; leads = x .leads; term = omega (arith, x .term); since = x .since; turn = x .turn; low = x .low; reach = x .reach; ever = x .ever; reached = x .reached; settles = x .settles };
+        still = r .still;
+        all = r .all;
+      }
 
   -- A TICK
   pub went-tick : (n : ℕ) → Fine many h (suc k) ps o f (runs n own m s tick [] [] [])
@@ -229,9 +237,16 @@ module _ (many h k : ℕ) (ps : List (List ℕ)) (o : List ℕ) (ordered : an-or
   unchanged : (ss : List ℕ) (e : ℕ) → Went many h (suc k) ps o f (ran m s [] [] ss e) ps
   unfolding all-in-turn far-after every
   unchanged ss e =
-      record
-        { o₁ = o; grown = grown-none many h (suc k) ps o ordered short; flew = refl; turn = refl; by = refl; ever = r .going .ever; stable = stable
-        ; stays = inr rests-later }
+      record {
+        o₁ = o;
+        grown = grown-none many h (suc k) ps o ordered short;
+        flew = refl;
+        turn = refl;
+        by = refl;
+        ever = r .going .ever;
+        stable = stable;
+        stays = inr rests-later;
+      }
 
   pub went-how-far : (n : ℕ) → Went many h (suc k) ps o f (runs n own m s (said how-far) [] [] []) ps
   went-how-far zero = subst (λ (x : Ran). Went many h (suc k) ps o f x ps) (sym (run-none m s (said how-far))) (unchanged [] 1000)
@@ -250,10 +265,16 @@ module _ (many h k : ℕ) (ps : List (List ℕ)) (o : List ℕ) (ordered : an-or
     went-none : Goes (ran m s [] [] [] 1000)
     unfolding all-in-turn far-after every
     went-none =
-        record
-          { o₁ = o; grown = grown-later many h (suc k) ps o ordered short v; flew = refl; turn = refl; by = refl; ever = r .going .ever
-          ; stable = record { holds = holds-later ps o ordered v s (g .holds); applied = g .applied; term = omega (arith, g .term) }
-          ; stays = inl refl }
+        record {
+          o₁ = o;
+          grown = grown-later many h (suc k) ps o ordered short v;
+          flew = refl;
+          turn = refl;
+          by = refl;
+          ever = r .going .ever;
+          stable = record { holds = holds-later ps o ordered v s (g .holds); applied = g .applied; term = omega (arith, g .term) };
+          stays = inl refl;
+        }
 
     -- it is refused
     number-end : (why : Refusal) → pick (leb 1 (refusal-number why) && ltb (refusal-number why) 1000) (refusal-number why) 1001 ≡ refusal-number why
@@ -288,8 +309,8 @@ module _ (many h k : ℕ) (ps : List (List ℕ)) (o : List ℕ) (ordered : an-or
       taken-unsettled =
           ap (λ (x : Machine). x .unsettled)
           (loaded-stored (own-acked (value-appended m (loaded m .term .0) v) (loaded m) (last-index m + 1)) (with-unsettled (loaded m))
-           (sym (length-stored (own-acked (value-appended m (loaded m .term .0) v) (loaded m) (last-index m + 1)) (with-unsettled (loaded m))) ∙ taken-goes .holds .long)
-           (record { some = loaded-held m .some; waits = loaded-held m .waits }))
+          (sym (length-stored (own-acked (value-appended m (loaded m .term .0) v) (loaded m) (last-index m + 1)) (with-unsettled (loaded m))) ∙ taken-goes .holds .long)
+          (record { some = loaded-held m .some; waits = loaded-held m .waits }))
 
       on-taken : own .step m (said (propose v)) ≡ own .step m₁ next
       on-taken = on-propose m v (Ok m₁) e ∙ sym (on-next m₁)
@@ -330,12 +351,14 @@ module _ (many h k : ℕ) (ps : List (List ℕ)) (o : List ℕ) (ordered : an-or
 
     full-why : value-fits m (length v) ≡ false → length v ≤ 256 → 4096 ≤ length ps
     full-why f l =
-        elim (and-cases (leb (length v) 256) (ltb (last-index m) 8193 && ltb (values m) 4096) f)
-        [ inl a ↦ absurd (omega (arith, leb-false (length v) 256 a))
-        | inr b ↦
-            elim (and-cases (ltb (last-index m) 8193) (ltb (values m) 4096) b)
-            [ inl c ↦ omega (arith, ltb-false (last-index m) 8193 c, roomy-last m (r .going .holds .roomy), r .going .holds .count, short)
-            | inr c ↦ omega (arith, ltb-false (values m) 4096 c, r .going .holds .count, short) ] ]
+        elim (and-cases (leb (length v) 256) (ltb (last-index m) 8193 && ltb (values m) 4096) f) [
+          | inl a ↦ absurd (omega (arith, leb-false (length v) 256 a))
+          | inr b ↦
+              elim (and-cases (ltb (last-index m) 8193) (ltb (values m) 4096) b) [
+                | inl c ↦ omega (arith, ltb-false (last-index m) 8193 c, roomy-last m (r .going .holds .roomy), r .going .holds .count, short)
+                | inr c ↦ omega (arith, ltb-false (values m) 4096 c, r .going .holds .count, short)
+              ]
+        ]
 
     refused-ends : (why : Refusal) → Why m (length v) why → may-end-so (refusal-number why) (length ps) ≡ true
     refused-ends NotNow w = rw (le-ltb 256 (length v) (w .0))

@@ -114,9 +114,10 @@ module _ (ps : List (List ℕ)) (o : List ℕ) where
 
     pub next-nearer : k < 18446744073709551615 → (left (loaded (next-machine .memory) .role) < left (loaded (x .memory) .role)) ⊎ Leads (next-machine .memory)
     next-nearer low =
-        elim (nearer k ps o (x .memory) (x .how-it-got) rests low)
-        [ inl l ↦ inl (rw next-role l)
-        | inr e ↦ inr (next-role ∙ e) ]
+        elim (nearer k ps o (x .memory) (x .how-it-got) rests low) [
+          | inl l ↦ inl (rw next-role l)
+          | inr e ↦ inr (next-role ∙ e)
+        ]
 
     next-leads : Leads (x .memory) → k < 18446744073709551615 → Leads (next-machine .memory)
     next-leads l low = elim (next-nearer low) [ inl b ↦ absurd (omega (arith, ap left l)) | inr e ↦ e ]
@@ -140,17 +141,19 @@ module _ (ps : List (List ℕ)) (o : List ℕ) where
       let es : List Applied = next-did k x ds g u in
       let t = waits r (suc k) y es (omega arith) (next-good k x ds g u) refl in
       let b : k < 18446744073709551615 = omega arith in
-      record
-        { x₁ = t .x₁
-        ; ds₁ = t .ds₁
-        ; is = ap (rounds r enough own 0) (round-next k x ds g u) ∙ t .is
-        ; good = subst (λ (n : ℕ). Good 1 n (lone (t .x₁) (t .ds₁))) (omega arith) (t .good)
-        ; up = t .up
-        ; stays = λ l. t .stays (next-leads k x ds g u l b)
-        ; near =
-            elim (next-nearer k x ds g u b)
-            [ inl l ↦ elim (t .near) [ inl l₁ ↦ inl (omega arith) | inr e ↦ inr e ]
-            | inr e ↦ inr (t .stays e) ] }
+      record {
+        x₁ = t .x₁;
+        ds₁ = t .ds₁;
+        is = ap (rounds r enough own 0) (round-next k x ds g u) ∙ t .is;
+        good = subst (λ (n : ℕ). Good 1 n (lone (t .x₁) (t .ds₁))) (omega arith) (t .good);
+        up = t .up;
+        stays = λ l. t .stays (next-leads k x ds g u l b);
+        near =
+            elim (next-nearer k x ds g u b) [
+              | inl l ↦ elim (t .near) [ inl l₁ ↦ inl (omega arith) | inr e ↦ inr e ]
+              | inr e ↦ inr (t .stays e)
+            ];
+      }
 
   -- WHAT IS PROPOSED to a leader is decided and applied at once
   module _ (k : ℕ) (x : Machine) (ds : List Applied) (g : Good 1 k (lone x ds)) (up : x .up ≡ true) (leads : Leads (x .memory)) (room : length ps < 4096) where
@@ -166,7 +169,7 @@ module _ (ps : List (List ℕ)) (o : List ℕ) where
           let c = r .going .holds .count in
           and-from (leb (length v) 256) (ltb (last-index m) 8193 && ltb (values m) 4096) (le-leb (length v) 256 short)
           (and-from (ltb (last-index m) 8193) (ltb (values m) 4096)
-           (lt-ltb (last-index m) 8193 (omega (arith, roomy-last m (r .going .holds .roomy), g .short))) (lt-ltb (values m) 4096 (omega (arith, g .short))))
+          (lt-ltb (last-index m) 8193 (omega (arith, roomy-last m (r .going .holds .roomy), g .short))) (lt-ltb (values m) 4096 (omega (arith, g .short))))
 
       abbrev m₁ : List ℕ
       m₁ = taken m (loaded m) v
@@ -210,13 +213,14 @@ module _ (ps : List (List ℕ)) (o : List ℕ) where
       did-it =
           ap (λ (z : Ran). z .did) (runs-as ∙ made-first 4098 m₁ (x .stable) long unsettled more)
           ∙ ap (λ (a : Applied). a ∷ made 4098 (onward (safe m₁ long) (safe-long m₁ long)) (safe m₁ long) .did)
-              (ap (λ j. applied (j + 1) (value-at m₁ j)) at-last ∙ ap (applied (length o + 1)) value-is)
+          (ap (λ j. applied (j + 1) (value-at m₁ j)) at-last ∙ ap (applied (length o + 1)) value-is)
 
       far-on : last-since (far-after (x .how-it-got) (args .did) .since) ≡ length o + 1
       far-on =
-          elim (fine-taken .stays)
-          [ inl e ↦ absurd (omega (arith, over, e))
-          | inr e ↦ rests-since 1 0 (suc k) (ps ++ v ∷ []) (o ++ length ps ∷ []) (args .memory) (far-after (x .how-it-got) (args .did)) (e .1) ∙ length-push o (length ps) ]
+          elim (fine-taken .stays) [
+            | inl e ↦ absurd (omega (arith, over, e))
+            | inr e ↦ rests-since 1 0 (suc k) (ps ++ v ∷ []) (o ++ length ps ∷ []) (args .memory) (far-after (x .how-it-got) (args .did)) (e .1) ∙ length-push o (length ps)
+          ]
 
       abbrev p : Applied → Bool
       p a = eqb (a .index) (length o + 1) && same (a .value) v
@@ -241,9 +245,10 @@ module _ (ps : List (List ℕ)) (o : List ℕ) where
 
       got-it : Got (rounds 0 enough own 0 (proposing enough own (lone x ds) 0 v))
       unfolding rounds to-whom event-for before machine-at set-machine every
-      got-it =
-          ( and-from (leb (length o + 1) (last-since (far-after (x .how-it-got) (args .did) .since))) true (le-leb (length o + 1) _ (omega (arith, far-on))) refl
-          , subst (λ (es : List Applied). any p (ds ++ es) ≡ true) (sym did-it) (found _) )
+      got-it = (
+        and-from (leb (length o + 1) (last-since (far-after (x .how-it-got) (args .did) .since))) true (le-leb (length o + 1) _ (omega (arith, far-on))) refl,
+        subst (λ (es : List Applied). any p (ds ++ es) ≡ true) (sym did-it) (found _),
+      )
 
       ended : thing-ran enough own (lone x ds) (says 0 (propose v)) .end ≡ 0
       unfolding to-whom event-for before machine-at
@@ -268,13 +273,14 @@ module _ (ps : List (List ℕ)) (o : List ℕ) where
       let u = is-up x ds e in
       let t = waits 11 k x ds (omega arith) g u in
       let s : since (t .x₁) ≡ length o = since-all (k + 11) (t .x₁) (t .ds₁) (t .good) (t .up) in
-      let l : Leads (t .x₁ .memory) = elim (t .near) [ inl b ↦ absurd (omega (arith, left-most (x .memory))) | inr b ↦ b ] in
-      ( enough
-      , 11
-      , subst (λ (w : World). all-got w (most-applied (lone x ds)) ≡ true) (sym (t .is))
-          (and-from (or (not (t .x₁ .up)) (leb (most-applied (lone x ds)) (since (t .x₁)))) true
-           (rw (t .up) (le-leb (most-applied (lone x ds)) (since (t .x₁)) (omega (arith, most-of-one k x ds g u)))) refl)
-      , λ room. subst (λ (w : World). Takes own enough w) (sym (t .is)) (takes (k + 11) (t .x₁) (t .ds₁) (t .good) (t .up) l room) )
+      let l : Leads (t .x₁ .memory) = elim (t .near) [ inl b ↦ absurd (omega (arith, left-most (x .memory))) | inr b ↦ b ] in (
+        enough,
+        11,
+        subst (λ (w : World). all-got w (most-applied (lone x ds)) ≡ true) (sym (t .is))
+            (and-from (or (not (t .x₁ .up)) (leb (most-applied (lone x ds)) (since (t .x₁)))) true
+            (rw (t .up) (le-leb (most-applied (lone x ds)) (since (t .x₁)) (omega (arith, most-of-one k x ds g u)))) refl),
+        λ room. subst (λ (w : World). Takes own enough w) (sym (t .is)) (takes (k + 11) (t .x₁) (t .ds₁) (t .good) (t .up) l room),
+      )
 
 no-way : {A : Type 0} → _≡_ {A = ℕ} 0 1 → A
 no-way e = absurd (omega arith)

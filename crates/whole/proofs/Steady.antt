@@ -87,22 +87,24 @@ flag-small false = omega arith
 kept-stored : (m : List ℕ) (x : Machine) → (all-small m ≡ true → Small x) → Kept m (stored m x)
 unfolding stored
 kept-stored m x s =
-    record
-      { long = simp length-set
-      ; small = λ h.
+    record {
+      long = simp length-set;
+      small = λ h.
           let y = s h in
           then-kept (then-kept (then-kept (then-kept (then-kept (then-kept (kept-set m 0 _ (λ _. y .size)) (kept-set _ 1 _ (λ _. y .id))) (kept-set _ 2 _ (λ _. y .term))) (kept-set _ 3 _ (λ _. role-small (x .role)))) (kept-set _ 4 _ (λ _. omega (arith, y .waits)))) (kept-set _ 5 _ (λ _. y .since))) (kept-set _ 6 _ (λ _. flag-small (x .unsettled)))
-          .small h }
+          .small h;
+    }
 
 loaded-small : (m : List ℕ) → all-small m ≡ true → Small (loaded m)
 unfolding loaded
 loaded-small m h =
-    record
-      { size = cond-both (ltb 1 (getD m 0 0)) (getD m 0 0) 1 (λ x. x < limit) (λ _. small-word m 0 h) (λ _. omega arith)
-      ; id = small-word m 1 h
-      ; term = small-word m 2 h
-      ; since = small-word m 5 h
-      ; waits = loaded-held m .waits }
+    record {
+      size = cond-both (ltb 1 (getD m 0 0)) (getD m 0 0) 1 (λ x. x < limit) (λ _. small-word m 0 h) (λ _. omega arith);
+      id = small-word m 1 h;
+      term = small-word m 2 h;
+      since = small-word m 5 h;
+      waits = loaded-held m .waits;
+    }
 
 -- the log
 word-small : (v : List ℕ) (j : ℕ) → word-of v j < limit
@@ -121,11 +123,12 @@ module _ (m : List ℕ) (t : ℕ) (term : all-small m ≡ true → t < limit) wh
   -- an entry is pushed onto what m became
   kept-pushed : (m₁ : List ℕ) (i n : ℕ) → Kept m m₁ → i ≤ 8193 → n ≤ 4097 → Kept m (entry-pushed m₁ i t n)
   kept-pushed m₁ i n k a b =
-      record
-        { long = simp length-set (k .long)
-        ; small = λ h.
+      record {
+        long = simp length-set (k .long);
+        small = λ h.
             then-kept (then-kept (kept-set m₁ (entry-row i) t (λ _. term h)) (kept-set _ (entry-row i + 1) n (λ _. omega arith))) (kept-set _ 64 i (λ _. omega arith))
-            .small (k .small h) }
+            .small (k .small h);
+      }
 
   kept-appended : (v : List ℕ) → value-fits m (length v) ≡ true → Kept m (value-appended m t v)
   unfolding value-appended
@@ -154,11 +157,11 @@ unfolding powered
 kept-powered m i n =
     cond-both (belongs i n) (applied-set (stored m (restarted (loaded m) i n)) (applied-number m - 1)) m (λ x. Kept m x)
     (λ e.
-        let b = and-parts (leb n 7) (ltb i n) e in
-        let low : n ≤ 7 = leb-true n 7 (b .0) in
-        let at : i < n = ltb-true i n (b .1) in
-        then-kept (kept-stored m (restarted (loaded m) i n) (λ h. record { size = omega arith; id = omega arith; term = loaded-small m h .term; since = omega arith; waits = omega arith }))
-        (kept-applied _ (applied-number m - 1) (omega (arith, applied-most m))))
+    let b = and-parts (leb n 7) (ltb i n) e in
+    let low : n ≤ 7 = leb-true n 7 (b .0) in
+    let at : i < n = ltb-true i n (b .1) in
+    then-kept (kept-stored m (restarted (loaded m) i n) (λ h. record { size = omega arith; id = omega arith; term = loaded-small m h .term; since = omega arith; waits = omega arith }))
+    (kept-applied _ (applied-number m - 1) (omega (arith, applied-most m))))
     (λ _. kept m)
 
 module _ (m : List ℕ) (x : Machine) (small : all-small m ≡ true → Small x) where
@@ -243,10 +246,10 @@ kept-go-on m =
     cond-both (loaded m .unsettled) (answer (stored m (settled (loaded m))) settle) (apply-due m (loaded m) (due m)) (λ s. Kept m (s .memory))
     (λ _. kept-stored m (settled (loaded m)) (λ h. let y = loaded-small m h in record { size = y .size; id = y .id; term = y .term; since = y .since; waits = y .waits }))
     (λ _. cond-both (ltb (applied-number m) (decided m)) (Some (applied-number m)) None (λ o. Kept m (apply-due m (loaded m) o .memory))
-        (λ _. then-kept
-            (kept-stored m (applied-up-to (loaded m) (applied-number m + 1)) (λ h. let y = loaded-small m h in record { size = y .size; id = y .id; term = y .term; since = omega (arith, applied-most m); waits = y .waits }))
-            (kept-applied _ (applied-number m + 1) (omega (arith, applied-most m))))
-        (λ _. kept m))
+    (λ _. then-kept
+    (kept-stored m (applied-up-to (loaded m) (applied-number m + 1)) (λ h. let y = loaded-small m h in record { size = y .size; id = y .id; term = y .term; since = omega (arith, applied-most m); waits = y .waits }))
+    (kept-applied _ (applied-number m + 1) (omega (arith, applied-most m))))
+    (λ _. kept m))
 
 kept-after : (m : List ℕ) (p : Result (List ℕ) Refusal) → Kept-proposed m p → Kept m (after-proposal m p .memory)
 kept-after m (Ok m₁) k = then-kept k (kept-go-on m₁)

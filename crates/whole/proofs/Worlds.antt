@@ -45,17 +45,19 @@ module _ (many h k : ℕ) (ps ps₁ : List (List ℕ)) (o : List ℕ) (keep : (m
   rests-keep : (m : List ℕ) (f : Far) → Rests many h k ps o m f → Rests many h (suc k) ps₁ o m f
   rests-keep m f r =
       let x = r .going in
-      record
-        { going = record { holds = keep m (x .holds); size = x .size; id = x .id; leads = x .leads; term = omega (arith, x .term); since = x .since; turn = x .turn; low = x .low; reach = x .reach; ever = x .ever; reached = x .reached; settles = x .settles }
-        ; still = r .still
-        ; all = r .all }
+      record {
+        going = record { holds = keep m (x .holds); size = x .size; id = x .id; leads = x .leads; term = omega (arith, x .term); since = x .since; turn = x .turn; low = x .low; reach = x .reach; ever = x .ever; reached = x .reached; settles = x .settles };
+        still = r .still;
+        all = r .all;
+      }
 
   sound-keep : (x : Machine) → Sound many h k ps o x → Sound many h (suc k) ps₁ o x
   sound-keep x g =
-      record
-        { stable = stable-keep (x .stable) (x .how-it-got) (g .stable)
-        ; ever = g .ever
-        ; live = λ u. rests-keep (x .memory) (x .how-it-got) (g .live u) }
+      record {
+        stable = stable-keep (x .stable) (x .how-it-got) (g .stable);
+        ever = g .ever;
+        live = λ u. rests-keep (x .memory) (x .how-it-got) (g .live u);
+      }
 
 module _ (many k : ℕ) (w : World) (t : Thing) (r : Ran) (g : Good many k w) where
   abbrev ps₁ : List (List ℕ)
@@ -81,13 +83,14 @@ module _ (many k : ℕ) (w : World) (t : Thing) (r : Ran) (g : Good many k w) wh
   pub after-good : (up : Bool) → to-whom w t < many → (wt : Gone) → (up ≡ true → r .end ≢ 1000) → Good many (suc k) (after-thing w t r up (wt .o₁))
   unfolding each
   after-good up to wt ne =
-      record
-        { few = g .few
-        ; number = length-set-machine (w .machines) (to-whom w t) (after-machine t old r up) ∙ g .number
-        ; wire = ap (λ a. a ++ flown (to-whom w t) (r .flew)) (g .wire) ∙ ap (flown (to-whom w t)) (wt .flew)
-        ; ordered = wt .grown .ordered
-        ; short = wt .grown .short
-        ; all = λ j l. elim (cases-eq j (to-whom w t)) [ inl e ↦ this j e | inr d ↦ other j l d ] }
+      record {
+        few = g .few;
+        number = length-set-machine (w .machines) (to-whom w t) (after-machine t old r up) ∙ g .number;
+        wire = ap (λ a. a ++ flown (to-whom w t) (r .flew)) (g .wire) ∙ ap (flown (to-whom w t)) (wt .flew);
+        ordered = wt .grown .ordered;
+        short = wt .grown .short;
+        all = λ j l. elim (cases-eq j (to-whom w t)) [ inl e ↦ this j e | inr d ↦ other j l d ];
+      }
     where
       ms : List Machine
       ms = set-machine (w .machines) (to-whom w t) (after-machine t old r up)
@@ -135,15 +138,16 @@ module _ (many k : ℕ) (w : World) (g : Good many k w) where
       let s = g .all h l in
       let st : Stable many h k (w .proposed) (w .order) (x .stable) (far (x .how-it-got .ever) []) = record { holds = s .stable .holds; applied = s .stable .applied; term = s .stable .term } in
       let q : Quiet (runs enough own (x .stable) (x .stable) (on h (length (w .machines))) [] [] []) =
-            subst (λ (n : ℕ). Quiet (runs enough own (x .stable) (x .stable) (on h n) [] [] [])) (sym (g .number))
-            (ends-power many h k (w .proposed) (w .order) (g .ordered) (g .short) (x .stable) (x .how-it-got .ever) st (s .ever) l (g .few) (suc 4098) (omega arith)) in
-      record
-        { to = l
-        ; went = λ n.
+      subst (λ (n : ℕ). Quiet (runs enough own (x .stable) (x .stable) (on h n) [] [] [])) (sym (g .number))
+      (ends-power many h k (w .proposed) (w .order) (g .ordered) (g .short) (x .stable) (x .how-it-got .ever) st (s .ever) l (g .few) (suc 4098) (omega arith)) in
+      record {
+        to = l;
+        went = λ n.
             subst (λ (j : ℕ). Went many h (suc k) (w .proposed) (w .order) (far (x .how-it-got .ever) []) (runs n own (x .stable) (x .stable) (on h j) [] [] []) (w .proposed)) (sym (g .number))
-            (went-power many h k (w .proposed) (w .order) (g .ordered) (g .short) (x .stable) (x .how-it-got .ever) st (s .ever) l (g .few) n)
-        ; ends = quiet-ends q
-        ; over = quiet-over q }
+            (went-power many h k (w .proposed) (w .order) (g .ordered) (g .short) (x .stable) (x .how-it-got .ever) st (s .ever) l (g .few) n);
+        ends = quiet-ends q;
+        over = quiet-over q;
+      }
 
   tick-right : (h : ℕ) → proper w (ticks h) ≡ true → Goes-right many k w (ticks h)
   unfolding proper to-whom event-for before with-proposal may-end
@@ -152,13 +156,14 @@ module _ (many k : ℕ) (w : World) (g : Good many k w) where
       let x : Machine = machine-at (w .machines) h in
       let s = g .all h (both .0) in
       let q = ends-tick many h k (w .proposed) (w .order) (g .ordered) (g .short) (x .memory) (x .stable) (x .how-it-got) (s .live (both .1)) (s .stable) (suc 4098) (omega arith) in
-      record
-        { to = both .0
-        ; went = λ n.
+      record {
+        to = both .0;
+        went = λ n.
             went-fine many h (suc k) (w .proposed) (w .order) (x .how-it-got) _ (w .proposed) (w .order) (grown-none many h (suc k) (w .proposed) (w .order) (g .ordered) (g .short))
-            (went-tick many h k (w .proposed) (w .order) (g .ordered) (g .short) (x .memory) (x .stable) (x .how-it-got) (s .live (both .1)) (s .stable) n)
-        ; ends = quiet-ends q
-        ; over = quiet-over q }
+            (went-tick many h k (w .proposed) (w .order) (g .ordered) (g .short) (x .memory) (x .stable) (x .how-it-got) (s .live (both .1)) (s .stable) n);
+        ends = quiet-ends q;
+        over = quiet-over q;
+      }
 
   how-far-right : (h : ℕ) → proper w (says h how-far) ≡ true → Goes-right many k w (says h how-far)
   unfolding proper to-whom event-for before with-proposal may-end none-of
@@ -167,13 +172,14 @@ module _ (many k : ℕ) (w : World) (g : Good many k w) where
       let x : Machine = machine-at (w .machines) h in
       let s = g .all h (both .0) in
       let e = shown many h k (w .proposed) (w .order) (g .ordered) (g .short) (x .memory) (x .stable) (x .how-it-got) (s .live (both .1)) (s .stable) 4098 in
-      record
-        { to = both .0
-        ; went = went-how-far many h k (w .proposed) (w .order) (g .ordered) (g .short) (x .memory) (x .stable) (x .how-it-got) (s .live (both .1)) (s .stable)
-        ; ends =
+      record {
+        to = both .0;
+        went = went-how-far many h k (w .proposed) (w .order) (g .ordered) (g .short) (x .memory) (x .stable) (x .how-it-got) (s .live (both .1)) (s .stable);
+        ends =
             subst (λ (r : Ran). ((eqb (r .end) 0 && none-of (r .did)) && same (r .showed) (last-since (x .how-it-got .since) ∷ [])) ≡ true) (sym e)
-            (subst (λ (a : ℕ). same (loaded (x .memory) .since .0 ∷ []) (a ∷ []) ≡ true) (s .live (both .1) .going .since) (same-self (loaded (x .memory) .since .0 ∷ [])))
-        ; over = subst (λ (r : Ran). r .end ≢ 1000) (sym e) (omega arith) }
+            (subst (λ (a : ℕ). same (loaded (x .memory) .since .0 ∷ []) (a ∷ []) ≡ true) (s .live (both .1) .going .since) (same-self (loaded (x .memory) .since .0 ∷ [])));
+        over = subst (λ (r : Ran). r .end ≢ 1000) (sym e) (omega arith);
+      }
 
   propose-right : (h : ℕ) (v : List ℕ) → proper w (says h (propose v)) ≡ true → Goes-right many k w (says h (propose v))
   unfolding proper to-whom event-for before with-proposal may-end small-command none-of
@@ -184,11 +190,12 @@ module _ (many k : ℕ) (w : World) (g : Good many k w) where
       let x : Machine = machine-at (w .machines) h in
       let s = g .all h (both .0) in
       let z = ends-propose many h k (w .proposed) (w .order) (g .ordered) (g .short) (x .memory) (x .stable) (x .how-it-got) (s .live (both .1)) (s .stable) v bs (suc 4098) (omega arith) in
-      record
-        { to = both .0
-        ; went = went-propose many h k (w .proposed) (w .order) (g .ordered) (g .short) (x .memory) (x .stable) (x .how-it-got) (s .live (both .1)) (s .stable) v bs
-        ; ends = rw (z .still) (z .may)
-        ; over = z .over }
+      record {
+        to = both .0;
+        went = went-propose many h k (w .proposed) (w .order) (g .ordered) (g .short) (x .memory) (x .stable) (x .how-it-got) (s .live (both .1)) (s .stable) v bs;
+        ends = rw (z .still) (z .may);
+        over = z .over;
+      }
 
   -- no letter ever flew
   no-letter : (j : ℕ) → proper w (delivers j) ≡ true → ⊥
@@ -209,13 +216,19 @@ module _ (many k : ℕ) (w : World) (g : Good many k w) where
   pub whole-kept : (t : Thing) → proper w t ≡ true → Whole-kept own (Good many (suc k)) w t
   whole-kept t p =
       let z = goes-right t p in
-      record
-        { acts = enough; order = z .went enough .o₁; ends = z .ends; right = right-is many k w t (thing-ran enough own w t) g (z .went enough)
-        ; kept = after-good many k w t (thing-ran enough own w t) g true (z .to) (z .went enough) (λ _. z .over) }
+      record {
+        acts = enough;
+        order = z .went enough .o₁;
+        ends = z .ends;
+        right = right-is many k w t (thing-ran enough own w t) g (z .went enough);
+        kept = after-good many k w t (thing-ran enough own w t) g true (z .to) (z .went enough) (λ _. z .over);
+      }
 
   pub cut-kept : (t : Thing) (n : ℕ) → proper w t ≡ true → Cut-kept own (Good many (suc k)) w t n
   cut-kept t n p =
       let z = goes-right t p in
-      record
-        { order = z .went n .o₁; right = right-is many k w t (thing-ran n own w t) g (z .went n)
-        ; kept = after-good many k w t (thing-ran n own w t) g false (z .to) (z .went n) (λ u. absurd (false≢true u)) }
+      record {
+        order = z .went n .o₁;
+        right = right-is many k w t (thing-ran n own w t) g (z .went n);
+        kept = after-good many k w t (thing-ran n own w t) g false (z .to) (z .went n) (λ u. absurd (false≢true u));
+      }
