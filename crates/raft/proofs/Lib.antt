@@ -1,1 +1,4 @@
+pub mod RowLaws
+pub mod Quorum
 pub mod HeaderLaws
+pub mod Parts

@@ -1,5 +1,11 @@
 pub mod Header
+pub mod Rows
 pub mod Power
+pub mod Say
+pub mod Commit
 pub mod Election
+pub mod Progress
 pub mod Proposal
+pub mod Receive
+pub mod Outbox
 pub mod Apply

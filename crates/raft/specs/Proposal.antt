@@ -1,20 +1,22 @@
--- What a proposal does: it is refused, or stands last in the leader's log.
+-- What a proposal does: it is refused, or stands last in the leader's log and is sent to all others.
 use mathlib.Core.Path.{_≡_}
 use mathlib.Core.Bool.{Bool, cond, true}
 use mathlib.Core.List.{List}
 use Prim.Native.Nat.{ℕ, _+_}
 use lib.Dec.{ltb}
-use lib.ListN.{length}
+use lib.ListN.{length, set}
 use Rattle.std.specs.declared.result.Result.{Result}
 use Rattle.std.specs.declared.result.Result.the-variants.{Ok, Err}
-use Rattle.raft_log.specs.Entries.{last-index, value-fits, value-appended, commit-raised}
+use Rattle.raft_log.specs.Entries.{last-index, value-fits, value-appended}
 use Rattle.raft.specs.declared.header.Role.{Role}
 use Rattle.raft.specs.declared.header.Role.the-variants.{Follower, Candidate, Leader}
 use Rattle.raft.specs.declared.header.Machine.{Machine}
 use Rattle.raft.specs.declared.proposal.Refusal.{Refusal}
 use Rattle.raft.specs.declared.proposal.Refusal.the-variants.{NotNow, TooLong, Full}
+use Rattle.raft.specs.declared.say.Due.the-variants.{Append}
 use Rattle.raft.specs.Header.{machine, loaded, stored}
-use Rattle.raft.specs.Election.{most-of}
+use Rattle.raft.specs.Say.{said-to-others}
+use Rattle.raft.specs.Commit.{maybe-committed}
 
 -- the number of a refusal
 abbrev pub refusal-number : Refusal → ℕ
@@ -26,16 +28,13 @@ refusal-number Full = 7
 abbrev pub with-unsettled : Machine → Machine
 with-unsettled x = machine (x .size .0) (x .id .0) (x .term .0) (x .role) (x .since .0) true
 
--- the leader itself has entry i: with one machine that is more than half
-unfoldable pub own-acked : List ℕ → Machine → ℕ → List ℕ
-own-acked m x i = cond (most-of 1 (x .size .0)) (commit-raised m i) m
-
--- memory with a proposal taken
+-- memory with a proposal taken: the leader itself has it
 unfoldable pub taken : List ℕ → Machine → List ℕ → List ℕ
-taken m x v = stored (own-acked (value-appended m (x .term .0) v) x (last-index m + 1)) (with-unsettled x)
+taken m x v =
+    said-to-others (stored (maybe-committed (set (value-appended m (x .term .0) v) (15 + x .id .0) (last-index m + 1)) (x .size .0) (x .term .0)) (with-unsettled x)) x Append
 
 abbrev pub propose-as : List ℕ → Machine → Role → List ℕ → Result (List ℕ) Refusal
-propose-as m x (Follower e) v = Err NotNow
+propose-as m x (Follower e heard) v = Err NotNow
 propose-as m x (Candidate e) v = Err NotNow
 propose-as m x Leader v = cond (value-fits m (length v)) (Ok (taken m x v)) (Err Full)
 

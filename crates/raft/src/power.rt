@@ -3,18 +3,20 @@ ghost use mathlib.Core.Path.{_≡_};
 ghost use lib.ListN.{length};
 ghost use Rattle.raft_log.specs.Layout.{memory-words};
 ghost use Rattle.raft.specs.Power.{belongs, restarted, powered};
+
 use super::header::ClusterSize;
+use super::header::MAX_SIZE;
 use super::header::Machine;
 use super::header::Role;
 use super::header::Ticks;
 use super::header::load;
 use super::header::store;
+use super::rows::DUE;
+use super::rows::set_all;
 use raft_log::MachineId;
 use raft_log::Number;
 use raft_log::entries::applied;
 use raft_log::entries::set_applied;
-
-const MAX_SIZE: u64 = 7;
 
 fn belongs(id: MachineId, size: ClusterSize) -> bool
     ensures { λ r. ⌜ r ≡ belongs (id .0) (size .0) ⌝ }
@@ -26,14 +28,7 @@ impl Machine {
     fn restarted(self, id: MachineId, size: ClusterSize) -> Machine
         ensures { λ r. ⌜ r ≡ restarted self (id .0) (size .0) ⌝ }
     {
-        Machine {
-            size,
-            id,
-            role: Role::Follower(Ticks(0)),
-            since: Number(0),
-            unsettled: false,
-            ..self
-        }
+        Machine { size, id, role: Role::Follower(Ticks(0), false), since: Number(0), unsettled: false, ..self }
     }
 }
 
@@ -47,5 +42,6 @@ pub fn power(memory: &mut [u64], id: MachineId, size: ClusterSize)
         let machine = load(memory);
         store(memory, machine.restarted(id, size));
         set_applied(memory, before);
+        set_all(memory, DUE, 0);
     }
 }

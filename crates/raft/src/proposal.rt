@@ -1,18 +1,19 @@
-//! A value is proposed: it is refused, or stands last in the leader's log.
+//! A value is proposed: it is refused, or stands last in the leader's log and is sent to all others.
 ghost use mathlib.Core.Path.{_≡_};
-ghost use Prim.Native.Nat.{_≤_};
 ghost use lib.ListN.{length};
 ghost use Rattle.std.specs.declared.result.Result.the-variants.{Ok, Err};
 ghost use Rattle.raft_log.specs.Layout.{memory-words};
-ghost use Rattle.raft.specs.Proposal.{refusal-number, with-unsettled, own-acked, Proposed};
-use super::election::one_is_most;
+ghost use Rattle.raft.specs.Proposal.{refusal-number, with-unsettled, Proposed};
+
+use super::commit::maybe_commit;
 use super::header::Machine;
 use super::header::Role;
 use super::header::load;
 use super::header::store;
-use raft_log::Index;
+use super::rows::set_matched;
+use super::say::Due;
+use super::say::say_to_others;
 use raft_log::entries::append_value;
-use raft_log::entries::commit_to;
 use raft_log::layout::MAX_VALUE_BYTES;
 
 /// Why a proposal is refused.
@@ -39,23 +40,10 @@ impl Refusal {
 }
 
 impl Machine {
-    fn with_unsettled(self) -> Machine
+    pub fn with_unsettled(self) -> Machine
         ensures { λ r. ⌜ r ≡ with-unsettled self ⌝ }
     {
-        Machine {
-            unsettled: true,
-            ..self
-        }
-    }
-}
-
-// The leader itself has the entry: with one machine that is more than half.
-fn own_ack(memory: &mut [u64], machine: Machine, index: Index)
-    requires { ⌜ length (now memory) ≡ memory-words ⌝ }
-    ensures { λ _. ⌜ now (memory .exit) ≡ own-acked (now (memory .entry)) machine (index .0) ⌝ }
-{
-    if one_is_most(machine.size) {
-        commit_to(memory, index);
+        Machine { unsettled: true, ..self }
     }
 }
 
@@ -74,7 +62,9 @@ pub fn propose(memory: &mut [u64], bytes: &[u8]) -> Result<(), Refusal>
     let Some(index) = append_value(memory, machine.term, bytes) else {
         return Err(Refusal::Full);
     };
-    own_ack(memory, machine, index);
+    set_matched(memory, machine.id, index);
+    maybe_commit(memory, machine.size, machine.term);
     store(memory, machine.with_unsettled());
+    say_to_others(memory, machine, Due::Append);
     Ok(())
 }

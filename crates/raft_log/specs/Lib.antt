@@ -1,3 +1,9 @@
 pub mod Layout
 pub mod Values
 pub mod Entries
+pub mod Bytes
+pub mod Block
+pub mod View
+pub mod Conflict
+pub mod Accept
+pub mod LogCases

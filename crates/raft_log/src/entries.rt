@@ -7,6 +7,7 @@ ghost use lib.ListN.{length};
 ghost use Rattle.std.specs.declared.option.Option.the-variants.{Some, None};
 ghost use Rattle.raft_log.specs.Layout.{memory-words, entry-row};
 ghost use Rattle.raft_log.specs.Entries.{in-log, last-index, commit-index, applied-number, term-at, number-at, values, entry-put, entry-pushed, index, empty-place, Value-appended, Empty-appended, commit-rises, commit-raised, applied-set};
+
 use super::Index;
 use super::Number;
 use super::Term;
@@ -16,8 +17,8 @@ use super::layout::ENTRIES;
 use super::layout::ENTRY_WORDS;
 use super::layout::LAST_INDEX;
 use super::layout::MAX_ENTRIES;
-use super::layout::MAX_VALUE_BYTES;
 use super::layout::MAX_VALUES;
+use super::layout::MAX_VALUE_BYTES;
 use super::layout::at_most;
 use super::values::write_value;
 
@@ -123,7 +124,7 @@ fn put_entry(memory: &mut [u64], index: Index, term: Term, number: Number)
     memory[row + 1] = number.0;
 }
 
-fn push_entry(memory: &mut [u64], index: Index, term: Term, number: Number)
+pub(crate) fn push_entry(memory: &mut [u64], index: Index, term: Term, number: Number)
     requires { ⌜ length (now memory) ≡ memory-words ⌝ ∗ ⌜ 1 ≤ index .0 ⌝ ∗ ⌜ index .0 ≤ 8193 ⌝ }
     ensures { λ _. ⌜ now (memory .exit) ≡ entry-pushed (now (memory .entry)) (index .0) (term .0) (number .0) ⌝ }
 {

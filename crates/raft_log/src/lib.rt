@@ -1,5 +1,11 @@
 //! The log of one machine, in words that are lent to it: entries with terms, and the values that some of them hold.
 
+pub mod accept;
+pub mod block;
+pub mod block_writer;
+pub mod bytes;
+pub mod cases;
+pub mod conflict;
 pub mod entries;
 pub mod layout;
 pub mod values;

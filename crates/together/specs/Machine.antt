@@ -10,13 +10,13 @@ use Rattle.std.specs.declared.result.Result.the-variants.{Ok, Err}
 use Rattle.raft_log.specs.Layout.{memory-words}
 use Rattle.raft_log.specs.Values.{value-at}
 use Rattle.raft_log.specs.Entries.{applied-number, decided}
-use Rattle.raft.specs.declared.header.Machine.{Machine}
-use Rattle.raft.specs.declared.proposal.Refusal.{Refusal}
-use Rattle.raft.specs.Header.{loaded, stored}
-use Rattle.raft.specs.Power.{powered}
-use Rattle.raft.specs.Election.{ticked}
-use Rattle.raft.specs.Proposal.{proposed, refusal-number}
-use Rattle.raft.specs.Apply.{settled, due, advanced}
+use Rattle.solo.specs.declared.header.Machine.{Machine}
+use Rattle.solo.specs.declared.proposal.Refusal.{Refusal}
+use Rattle.solo.specs.Header.{loaded, stored}
+use Rattle.solo.specs.Power.{powered}
+use Rattle.solo.specs.Election.{ticked}
+use Rattle.solo.specs.Proposal.{proposed, refusal-number}
+use Rattle.solo.specs.Apply.{settled, due, advanced}
 use Rattle.together.specs.House.{Command, propose, how-far}
 use Rattle.together.specs.Promise.{Event, on, said, came, tick, next, Act, flies, settle, applies, shows, done, refused, Step}
 

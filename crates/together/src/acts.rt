@@ -3,14 +3,14 @@ ghost use mathlib.Core.Path.{_≡_};
 ghost use Prim.Native.Nat.{_≤_};
 ghost use lib.ListN.{length};
 ghost use Rattle.raft_log.specs.Layout.{memory-words};
-ghost use Rattle.raft.specs.Proposal.{proposed};
+ghost use Rattle.solo.specs.Proposal.{proposed};
 ghost use Rattle.together.specs.Machine.{go-on, after-proposal};
 ghost use Rattle.together.specs.Entry.{Did};
 use super::Told;
-use raft::apply::advance;
-use raft::apply::due;
-use raft::header::load;
-use raft::header::store;
+use solo::apply::advance;
+use solo::apply::due;
+use solo::header::load;
+use solo::header::store;
 use raft_log::Number;
 use raft_log::values::read_value;
 
@@ -37,7 +37,7 @@ pub fn propose(memory: &mut [u64], bytes: &[u8], out: &mut [u8]) -> Told
     requires { ⌜ length (now memory) ≡ memory-words ⌝ ∗ ⌜ 4096 ≤ length (now out) ⌝ }
     ensures { λ r. ⌜ Did (after-proposal (now (memory .entry)) (proposed (now (memory .entry)) (now (bytes .entry)))) r (now (memory .exit)) (now (out .entry)) (now (out .exit)) ⌝ }
 {
-    match raft::proposal::propose(memory, bytes) {
+    match solo::proposal::propose(memory, bytes) {
         Ok(()) => go_on(memory, out),
         Err(why) => Told::No(why.number()),
     }

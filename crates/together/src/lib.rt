@@ -9,10 +9,10 @@ mod acts;
 
 use acts::go_on;
 use acts::propose;
-use raft::election::tick;
-use raft::header::ClusterSize;
-use raft::header::load;
-use raft::power::power;
+use solo::election::tick;
+use solo::header::ClusterSize;
+use solo::header::load;
+use solo::power::power;
 use raft_log::MachineId;
 use tracker::committed_index;
 

@@ -13,10 +13,10 @@ use Rattle.raft_log.specs.Layout.{memory-words}
 use Rattle.raft_log.specs.Values.{value-at}
 use Rattle.raft_log.specs.Entries.{commit-index, applied-number, number-at, decided, applied-set}
 use Rattle.raft_log.proofs.LogLaws.{applied-most, number-most, Same-entries, applied-set-entries, applied-set-commit, applied-set-applied, applied-set-other, length-applied-set}
-use Rattle.raft.specs.declared.header.Machine.{Machine}
-use Rattle.raft.specs.Header.{elapsed-word, loaded, stored}
-use Rattle.raft.specs.Apply.{settled, applied-up-to, due, advanced}
-use Rattle.raft.proofs.HeaderLaws.{Held, loaded-held, loaded-stored, loaded-alike, length-stored, stored-other, stored-entries, stored-commit, stored-applied}
+use Rattle.solo.specs.declared.header.Machine.{Machine}
+use Rattle.solo.specs.Header.{elapsed-word, loaded, stored}
+use Rattle.solo.specs.Apply.{settled, applied-up-to, due, advanced}
+use Rattle.solo.proofs.HeaderLaws.{Held, loaded-held, loaded-stored, loaded-alike, length-stored, stored-other, stored-entries, stored-commit, stored-applied}
 use Rattle.together.specs.Promise.{Act, settle, applies, done, next, Step}
 use Rattle.together.specs.Machine.{answer, apply-due, go-on, own-step, decisions-from, acts}
 use Rattle.together.specs.Entry.{own}

@@ -13,15 +13,15 @@ use Rattle.raft_log.specs.Layout.{memory-words}
 use Rattle.raft_log.specs.Entries.{last-index, commit-index, applied-number, value-fits, value-appended, empty-place, empty-fits, empty-appended, commit-raised, applied-set}
 use Rattle.raft_log.proofs.LogLaws.{applied-most, Same-entries, applied-set-entries, applied-set-commit, applied-set-applied, applied-set-other, length-applied-set, commit-raised-applied}
 use Rattle.raft_log.proofs.AppendLaws.{appended-applied, empty-applied}
-use Rattle.raft.specs.declared.header.Ticks.{Ticks}
-use Rattle.raft.specs.declared.header.Role.{Role}
-use Rattle.raft.specs.declared.header.Role.the-variants.{Follower, Candidate, Leader}
-use Rattle.raft.specs.declared.header.Machine.{Machine}
-use Rattle.raft.specs.Header.{ticks, machine, elapsed-word, loaded, stored}
-use Rattle.raft.specs.Power.{belongs, restarted, powered}
-use Rattle.raft.specs.Election.{older, with-role, in-term, led, campaigned, term-entered, next-term-entered, waited, tick-as, ticked, most-of, owner}
-use Rattle.raft.specs.Proposal.{with-unsettled, own-acked, taken}
-use Rattle.raft.proofs.HeaderLaws.{Held, loaded-held, loaded-stored, loaded-alike, length-stored, stored-entries, stored-commit, stored-applied}
+use Rattle.solo.specs.declared.header.Ticks.{Ticks}
+use Rattle.solo.specs.declared.header.Role.{Role}
+use Rattle.solo.specs.declared.header.Role.the-variants.{Follower, Candidate, Leader}
+use Rattle.solo.specs.declared.header.Machine.{Machine}
+use Rattle.solo.specs.Header.{ticks, machine, elapsed-word, loaded, stored}
+use Rattle.solo.specs.Power.{belongs, restarted, powered}
+use Rattle.solo.specs.Election.{older, with-role, in-term, led, campaigned, term-entered, next-term-entered, waited, tick-as, ticked, most-of, owner}
+use Rattle.solo.specs.Proposal.{with-unsettled, own-acked, taken}
+use Rattle.solo.proofs.HeaderLaws.{Held, loaded-held, loaded-stored, loaded-alike, length-stored, stored-entries, stored-commit, stored-applied}
 use Rattle.together.specs.House.{Far, far, next-ok, may-apply, an-order}
 use Rattle.together.specs.Promise.{last-since, are-bytes}
 use Rattle.whole.proofs.Acts.{Long, Same-log, stored-log}

@@ -12,11 +12,11 @@ use Rattle.std.proofs.shelf.Tests.{ltb-true, ltb-false, le-leb, eq-eqb, and-fro
 use Rattle.raft_log.specs.Values.{value-at}
 use Rattle.raft_log.specs.Entries.{commit-index, applied-number, decided}
 use Rattle.raft_log.proofs.LogLaws.{number-most}
-use Rattle.raft.specs.declared.header.Role.the-variants.{Leader}
-use Rattle.raft.specs.declared.header.Machine.{Machine}
-use Rattle.raft.specs.Header.{loaded, stored}
-use Rattle.raft.specs.Apply.{settled, applied-up-to}
-use Rattle.raft.proofs.HeaderLaws.{stored-applied}
+use Rattle.solo.specs.declared.header.Role.the-variants.{Leader}
+use Rattle.solo.specs.declared.header.Machine.{Machine}
+use Rattle.solo.specs.Header.{loaded, stored}
+use Rattle.solo.specs.Apply.{settled, applied-up-to}
+use Rattle.solo.proofs.HeaderLaws.{stored-applied}
 use Rattle.together.specs.House.{pick, every, same, Applied, applied, Far, far, next-ok, may-apply, larger, got-to, all-in-turn, far-after, nth-value, by-order}
 use Rattle.together.specs.Promise.{Act, settle, applies, Step, Letter, Ran, ran, last-since}
 use Rattle.together.specs.Machine.{answer, go-on, decisions-from, acts}

@@ -13,7 +13,7 @@ use Rattle.raft_log.specs.Layout.{memory-words, at-most}
 use Rattle.raft_log.specs.Entries.{last-index, commit-index, applied-number, number-at, values}
 use Rattle.raft_log.proofs.LogLaws.{commit-most}
 use Rattle.raft_log.proofs.AppendLaws.{number-none}
-use Rattle.raft.specs.Header.{loaded}
+use Rattle.solo.specs.Header.{loaded}
 use Rattle.together.specs.House.{or, every, all-apart, far}
 use Rattle.together.specs.Promise.{Item, Machine, machine, machine-at, so-many, World, world, Right, Whole}
 use Rattle.together.specs.Machine.{zeros, start}

@@ -11,13 +11,13 @@ use Rattle.std.proofs.shelf.Tests.{ltb-false, lt-ltb, le-ltb, eq-eqb, cond-true
 use Rattle.raft_log.specs.Entries.{empty-fits, empty-place, empty-appended, commit-raised}
 use Rattle.raft_log.proofs.LogLaws.{length-commit-raised}
 use Rattle.raft_log.proofs.AppendLaws.{roomy-fits, length-empty}
-use Rattle.raft.specs.declared.header.Ticks.{Ticks}
-use Rattle.raft.specs.declared.header.Role.{Role}
-use Rattle.raft.specs.declared.header.Role.the-variants.{Follower, Candidate, Leader}
-use Rattle.raft.specs.declared.header.Machine.{Machine}
-use Rattle.raft.specs.Header.{ticks, elapsed-word, loaded, stored}
-use Rattle.raft.specs.Election.{older, with-role, in-term, led, campaigned, term-entered, next-term-entered, waited, tick-as, ticked, most-of, owner}
-use Rattle.raft.proofs.HeaderLaws.{Held, loaded-held, loaded-stored}
+use Rattle.solo.specs.declared.header.Ticks.{Ticks}
+use Rattle.solo.specs.declared.header.Role.{Role}
+use Rattle.solo.specs.declared.header.Role.the-variants.{Follower, Candidate, Leader}
+use Rattle.solo.specs.declared.header.Machine.{Machine}
+use Rattle.solo.specs.Header.{ticks, elapsed-word, loaded, stored}
+use Rattle.solo.specs.Election.{older, with-role, in-term, led, campaigned, term-entered, next-term-entered, waited, tick-as, ticked, most-of, owner}
+use Rattle.solo.proofs.HeaderLaws.{Held, loaded-held, loaded-stored}
 use Rattle.together.specs.House.{Far}
 use Rattle.whole.proofs.Acts.{Long}
 use Rattle.whole.proofs.Going.{Rests}

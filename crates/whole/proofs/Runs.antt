@@ -14,16 +14,16 @@ use Rattle.std.specs.declared.result.Result.the-variants.{Ok, Err}
 use Rattle.raft_log.specs.Entries.{last-index, applied-number, values, value-fits, value-appended, commit-raised}
 use Rattle.raft_log.proofs.AppendLaws.{roomy-last, appended-applied}
 use Rattle.raft_log.proofs.LogLaws.{commit-raised-applied}
-use Rattle.raft.specs.declared.header.Role.{Role}
-use Rattle.raft.specs.declared.header.Role.the-variants.{Follower, Candidate, Leader}
-use Rattle.raft.specs.declared.header.Machine.{Machine}
-use Rattle.raft.specs.declared.proposal.Refusal.{Refusal}
-use Rattle.raft.specs.declared.proposal.Refusal.the-variants.{NotNow, TooLong, Full}
-use Rattle.raft.specs.Header.{loaded, stored}
-use Rattle.raft.specs.Power.{powered}
-use Rattle.raft.specs.Election.{most-of, ticked}
-use Rattle.raft.specs.Proposal.{refusal-number, with-unsettled, own-acked, taken, propose-as, proposed}
-use Rattle.raft.proofs.HeaderLaws.{Held, loaded-held, loaded-stored, length-stored, stored-applied}
+use Rattle.solo.specs.declared.header.Role.{Role}
+use Rattle.solo.specs.declared.header.Role.the-variants.{Follower, Candidate, Leader}
+use Rattle.solo.specs.declared.header.Machine.{Machine}
+use Rattle.solo.specs.declared.proposal.Refusal.{Refusal}
+use Rattle.solo.specs.declared.proposal.Refusal.the-variants.{NotNow, TooLong, Full}
+use Rattle.solo.specs.Header.{loaded, stored}
+use Rattle.solo.specs.Power.{powered}
+use Rattle.solo.specs.Election.{most-of, ticked}
+use Rattle.solo.specs.Proposal.{refusal-number, with-unsettled, own-acked, taken, propose-as, proposed}
+use Rattle.solo.proofs.HeaderLaws.{Held, loaded-held, loaded-stored, length-stored, stored-applied}
 use Rattle.together.specs.House.{pick, or, every, propose, how-far, Applied, Far, far, all-in-turn, far-after, by-order, an-order, begins}
 use Rattle.together.specs.Promise.{Event, on, said, tick, next, shows, done, refused, Step, Letter, Ran, ran, runs, one-act, last-since, are-bytes}
 use Rattle.together.specs.Machine.{answer, go-on, after-proposal, acts, own-step}

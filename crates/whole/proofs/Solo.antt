@@ -13,11 +13,11 @@ use Rattle.std.specs.declared.result.Result.the-variants.{Ok, Err}
 use Rattle.raft_log.specs.Values.{value-at}
 use Rattle.raft_log.specs.Entries.{last-index, applied-number, values, decided, value-fits}
 use Rattle.raft_log.proofs.AppendLaws.{roomy-last}
-use Rattle.raft.specs.declared.header.Role.{Role}
-use Rattle.raft.specs.declared.header.Role.the-variants.{Follower, Candidate, Leader}
-use Rattle.raft.specs.Header.{loaded}
-use Rattle.raft.specs.Election.{ticked}
-use Rattle.raft.specs.Proposal.{taken, proposed}
+use Rattle.solo.specs.declared.header.Role.{Role}
+use Rattle.solo.specs.declared.header.Role.the-variants.{Follower, Candidate, Leader}
+use Rattle.solo.specs.Header.{loaded}
+use Rattle.solo.specs.Election.{ticked}
+use Rattle.solo.specs.Proposal.{taken, proposed}
 use Rattle.together.specs.House.{pick, or, every, any, those, each, same, propose, Applied, applied, Far, far-after, nth-value}
 use Rattle.together.specs.Promise.{Ran, ran, runs, last-since, most, are-bytes, said, tick, Machine, machine-at, set-machine, World, world, flown, Flown, says, ticks, to-whom, event-for, proper, before, thing-ran, after-machine, with-proposal, after-thing, step-of, all-tick, all-come, round, rounds, enough-up, all-got, most-applied, proposing, Takes, Calm}
 use Rattle.together.specs.Machine.{acts}

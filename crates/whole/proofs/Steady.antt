@@ -16,18 +16,18 @@ use Rattle.raft_log.specs.Layout.{memory-words, at-most, entry-row, value-row}
 use Rattle.raft_log.specs.Values.{word-of, words-put, words-for, value-put}
 use Rattle.raft_log.specs.Entries.{last-index, commit-index, applied-number, values, decided, entry-put, entry-pushed, value-fits, value-appended, empty-place, empty-fits, empty-appended, commit-rises, commit-raised, applied-set}
 use Rattle.raft_log.proofs.LogLaws.{last-most, applied-most, number-most}
-use Rattle.raft.specs.declared.header.Ticks.{Ticks}
-use Rattle.raft.specs.declared.header.Role.{Role}
-use Rattle.raft.specs.declared.header.Role.the-variants.{Follower, Candidate, Leader}
-use Rattle.raft.specs.declared.header.Machine.{Machine}
-use Rattle.raft.specs.declared.proposal.Refusal.{Refusal}
-use Rattle.raft.specs.declared.proposal.Refusal.the-variants.{NotNow, TooLong, Full}
-use Rattle.raft.specs.Header.{at-least, ticks, machine, role-word, elapsed-word, flag-word, loaded, stored}
-use Rattle.raft.specs.Power.{belongs, restarted, powered}
-use Rattle.raft.specs.Election.{older, with-role, in-term, led, campaigned, term-entered, next-term-entered, waited, tick-as, ticked, most-of, owner}
-use Rattle.raft.specs.Proposal.{with-unsettled, own-acked, taken, propose-as, proposed}
-use Rattle.raft.specs.Apply.{settled, applied-up-to, due, advanced}
-use Rattle.raft.proofs.HeaderLaws.{loaded-held, length-stored}
+use Rattle.solo.specs.declared.header.Ticks.{Ticks}
+use Rattle.solo.specs.declared.header.Role.{Role}
+use Rattle.solo.specs.declared.header.Role.the-variants.{Follower, Candidate, Leader}
+use Rattle.solo.specs.declared.header.Machine.{Machine}
+use Rattle.solo.specs.declared.proposal.Refusal.{Refusal}
+use Rattle.solo.specs.declared.proposal.Refusal.the-variants.{NotNow, TooLong, Full}
+use Rattle.solo.specs.Header.{at-least, ticks, machine, role-word, elapsed-word, flag-word, loaded, stored}
+use Rattle.solo.specs.Power.{belongs, restarted, powered}
+use Rattle.solo.specs.Election.{older, with-role, in-term, led, campaigned, term-entered, next-term-entered, waited, tick-as, ticked, most-of, owner}
+use Rattle.solo.specs.Proposal.{with-unsettled, own-acked, taken, propose-as, proposed}
+use Rattle.solo.specs.Apply.{settled, applied-up-to, due, advanced}
+use Rattle.solo.proofs.HeaderLaws.{loaded-held, length-stored}
 use Rattle.together.specs.House.{every, Command, propose, how-far}
 use Rattle.together.specs.Promise.{Steady, all-small, Event, on, said, came, tick, next, settle, Step}
 use Rattle.together.specs.Machine.{answer, apply-due, go-on, after-proposal, said-step, own-step, zeros, start}

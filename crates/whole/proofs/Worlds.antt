@@ -8,7 +8,7 @@ use native.Mathlib.Omega.{arith}
 use lib.Dec.{eqb, ltb, leb}
 use lib.ListN.{length, getD}
 use Rattle.std.proofs.shelf.Tests.{ltb-true, and-parts, and-from, cases-eq, false≢true}
-use Rattle.raft.specs.Header.{loaded}
+use Rattle.solo.specs.Header.{loaded}
 use Rattle.together.specs.House.{every, each, none-of, same, propose, how-far, Far, far, all-in-turn, far-after, by-order, an-order, begins, small-command}
 use Rattle.together.specs.Promise.{on, said, tick, Ran, ran, runs, last-since, are-bytes, Machine, machine-at, set-machine, World, flown, flown-at, Thing, power, says, delivers, ticks, to-whom, event-for, proper, before, thing-ran, after-machine, with-proposal, after-thing, applied-right, may-end}
 use Rattle.together.specs.Entry.{own}

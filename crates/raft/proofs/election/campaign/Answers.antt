@@ -2,10 +2,10 @@ use borrow.Author.Needs.{needs}
 use Rattle.raft.specs.Election.{campaigned}
 use Rattle.raft.proofs.election.campaign.Needs as need
 
-pub returns-then-one-is-most : need.returns-then-one-is-most
+pub returns-then-is-most : need.returns-then-is-most
 unfolding campaigned
-returns-then-one-is-most c = search needs
+returns-then-is-most c = search needs
 
-pub returns-else-one-is-most : need.returns-else-one-is-most
+pub returns-else-is-most : need.returns-else-is-most
 unfolding campaigned
-returns-else-one-is-most c = search needs
+returns-else-is-most c = search needs

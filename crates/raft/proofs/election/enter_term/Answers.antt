@@ -2,10 +2,10 @@ use borrow.Author.Needs.{needs}
 use Rattle.raft.specs.Election.{term-entered}
 use Rattle.raft.proofs.election.enter_term.Needs as need
 
-pub returns-then-term-machine : need.returns-then-term-machine
+pub returns-then-owner-of-machine : need.returns-then-owner-of-machine
 unfolding term-entered
-returns-then-term-machine c = search needs
+returns-then-owner-of-machine c = search needs
 
-pub returns-else-term-machine : need.returns-else-term-machine
+pub returns-else-owner-of-machine : need.returns-else-owner-of-machine
 unfolding term-entered
-returns-else-term-machine c = search needs
+returns-else-owner-of-machine c = search needs

@@ -1,3 +1,4 @@
+use borrow.Author.Needs.{needs}
 use Rattle.raft.specs.Header.{stored}
 use Rattle.raft.proofs.header.store.Needs as need
 

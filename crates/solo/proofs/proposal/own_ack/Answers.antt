@@ -1,6 +1,6 @@
 use borrow.Author.Needs.{needs}
-use Rattle.raft.specs.Proposal.{own-acked}
-use Rattle.raft.proofs.proposal.own_ack.Needs as need
+use Rattle.solo.specs.Proposal.{own-acked}
+use Rattle.solo.proofs.proposal.own_ack.Needs as need
 
 pub returns-then-one-is-most : need.returns-then-one-is-most
 unfolding own-acked

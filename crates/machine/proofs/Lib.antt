@@ -1,0 +1,13 @@
+pub mod Small
+pub mod Fits
+pub mod Leaders
+pub mod Elections
+pub mod Handlers
+pub mod Rises
+pub mod Decided
+pub mod Worlds
+pub mod Theorems
+pub mod MapLogs
+pub mod Maps
+pub mod Example
+pub mod Stable

@@ -1,0 +1,9 @@
+pub mod Lists
+pub mod Log
+pub mod History
+pub mod Invariant
+pub mod State
+pub mod Cluster
+pub mod Letters
+pub mod Theorems
+pub mod Example
