@@ -33,12 +33,13 @@ role-alike n m m₁ (Follower e h) x few same r = r
 role-alike n m m₁ (Candidate e) x few same r =
     record { votes = r .votes; role = r .role; elapsed = r .elapsed; counted = λ j l. ap (eqb 1) (same (8 + j) (omega arith) (omega arith)) ∙ r .counted j l }
 role-alike n m m₁ Leader x few same r =
-    record
-      { acked = r .acked
-      ; next = r .next
-      ; role = r .role
-      ; matched = λ j l. same (15 + j) (omega arith) (omega arith) ∙ r .matched j l
-      ; sent = λ j l. same (22 + j) (omega arith) (omega arith) ∙ r .sent j l }
+    record {
+      acked = r .acked;
+      next = r .next;
+      role = r .role;
+      matched = λ j l. same (15 + j) (omega arith) (omega arith) ∙ r .matched j l;
+      sent = λ j l. same (22 + j) (omega arith) (omega arith) ∙ r .sent j l;
+    }
 
 -- the log and how much of it is decided
 module _ (m m₁ : List ℕ) (long : length m₁ ≡ length m) (behind : (i : ℕ) → 64 ≤ i → getD m₁ i 0 ≡ getD m i 0) where
@@ -55,14 +56,15 @@ module _ (m m₁ : List ℕ) (long : length m₁ ≡ length m) (before : (i : �
 
   pub stands-alike : (n id : ℕ) (x : Machine (List ℕ)) → n ≤ 7 → Stands n id m x → Stands n id m₁ x
   stands-alike n id x few s =
-      record
-        { tidy = header-tidy m m₁ long behind (s .tidy)
-        ; size = ap (λ (y : Header). y .size .0) loaded-same ∙ s .size
-        ; self = ap (λ (y : Header). y .id .0) loaded-same ∙ s .self
-        ; term = ap (λ (y : Header). y .term .0) loaded-same ∙ s .term
-        ; log = ap lift-log (header-log m m₁ long behind) ∙ s .log
-        ; commit = commit-alike m m₁ long behind ∙ s .commit
-        ; role = subst (λ (k : Kind). Role-stands n m₁ k x) (sym (ap (λ (y : Header). y .role) loaded-same)) (role-alike n m m₁ (loaded m .role) x few (λ i a b. before i b) (s .role)) }
+      record {
+        tidy = header-tidy m m₁ long behind (s .tidy);
+        size = ap (λ (y : Header). y .size .0) loaded-same ∙ s .size;
+        self = ap (λ (y : Header). y .id .0) loaded-same ∙ s .self;
+        term = ap (λ (y : Header). y .term .0) loaded-same ∙ s .term;
+        log = ap lift-log (header-log m m₁ long behind) ∙ s .log;
+        commit = commit-alike m m₁ long behind ∙ s .commit;
+        role = subst (λ (k : Kind). Role-stands n m₁ k x) (sym (ap (λ (y : Header). y .role) loaded-same)) (role-alike n m m₁ (loaded m .role) x few (λ i a b. before i b) (s .role));
+      }
 
 -- letters that are due
 module _ (m : List ℕ) (f : ℕ → ℕ) where
@@ -103,11 +105,12 @@ stands-stored n id m y x few tidy held size self term log commit role =
     let behind : (i : ℕ) → 64 ≤ i → getD (stored m y) i 0 ≡ getD m i 0 = λ i l. stored-other m y i (omega arith) in
     let long = length-stored m y in
     let e = loaded-stored m y (tidy .entries .long) held in
-    record
-      { tidy = header-tidy m (stored m y) long behind tidy
-      ; size = ap (λ (z : Header). z .size .0) e ∙ size
-      ; self = ap (λ (z : Header). z .id .0) e ∙ self
-      ; term = ap (λ (z : Header). z .term .0) e ∙ term
-      ; log = ap lift-log (header-log m (stored m y) long behind) ∙ log
-      ; commit = commit-alike m (stored m y) long behind ∙ commit
-      ; role = subst (λ (k : Kind). Role-stands n (stored m y) k x) (sym (ap (λ (z : Header). z .role) e)) (role-alike n m (stored m y) (y .role) x few (λ i a b. stored-other m y i a) role) }
+    record {
+      tidy = header-tidy m (stored m y) long behind tidy;
+      size = ap (λ (z : Header). z .size .0) e ∙ size;
+      self = ap (λ (z : Header). z .id .0) e ∙ self;
+      term = ap (λ (z : Header). z .term .0) e ∙ term;
+      log = ap lift-log (header-log m (stored m y) long behind) ∙ log;
+      commit = commit-alike m (stored m y) long behind ∙ commit;
+      role = subst (λ (k : Kind). Role-stands n (stored m y) k x) (sym (ap (λ (z : Header). z .role) e)) (role-alike n m (stored m y) (y .role) x few (λ i a b. stored-other m y i a) role);
+    }

@@ -38,7 +38,7 @@ pub append-put : (out o o₁ o₂ : List ℕ) (t p q k n : ℕ) (es : List Entry
 unfolding letter-bytes
 append-put out o o₁ o₂ t p q k n es c l h h₁ h₂ =
     put-more out o₁ o₂ 0 34 (1 ∷ (eight t ++ (eight p ++ (eight q ++ (eight k ++ (n ∷ [])))))) (block-bytes es) refl (omega arith)
-      (put-more out o o₁ 0 25 (1 ∷ (eight t ++ (eight p ++ eight q))) (eight k ++ (n ∷ [])) refl (omega arith) h h₁) h₂
+    (put-more out o o₁ 0 25 (1 ∷ (eight t ++ (eight p ++ eight q))) (eight k ++ (n ∷ [])) refl (omega arith) h h₁) h₂
     ∙ ap (λ x. laid out 0 (1 ∷ (eight t ++ (eight p ++ (eight q ++ (eight k ++ (x ∷ block-bytes es))))))) (sym c)
 
 -- a byte at a place, given as what it stands for

@@ -49,7 +49,7 @@ module _ (bs : List ℕ) (b : Bytes bs) where
   three-numbers k e l =
       ap (λ t. k ∷ (eight (word-at bs 1) ++ (eight (word-at bs 9) ++ t))) (last 17 25 refl l)
       ∙ (ap (λ t. k ∷ (eight (word-at bs 1) ++ t)) (eight-at bs 9 b (omega arith))
-         ∙ (ap (λ t. k ∷ t) (eight-at bs 1 b (omega arith)) ∙ first k e (omega arith)))
+      ∙ (ap (λ t. k ∷ t) (eight-at bs 1 b (omega arith)) ∙ first k e (omega arith)))
 
   -- a vote is one byte
   vote : (x : ℕ) → x ≤ 1 → bit (eqb x 1) ≡ x
@@ -77,17 +77,18 @@ module _ (bs : List ℕ) (b : Bytes bs) where
     appended =
         ap (λ t. 1 ∷ (eight (word-at bs 1) ++ (eight (word-at bs 9) ++ (eight (word-at bs 17) ++ (eight (word-at bs 25) ++ t))))) block-is
         ∙ (ap (λ t. 1 ∷ (eight (word-at bs 1) ++ (eight (word-at bs 9) ++ (eight (word-at bs 17) ++ t)))) (eight-at bs 25 b (omega arith))
-           ∙ (ap (λ t. 1 ∷ (eight (word-at bs 1) ++ (eight (word-at bs 9) ++ t))) (eight-at bs 17 b (omega arith))
-              ∙ (ap (λ t. 1 ∷ (eight (word-at bs 1) ++ t)) (eight-at bs 9 b (omega arith)) ∙ (ap (λ t. 1 ∷ t) (eight-at bs 1 b (omega arith)) ∙ first 1 e (omega arith)))))
+        ∙ (ap (λ t. 1 ∷ (eight (word-at bs 1) ++ (eight (word-at bs 9) ++ t))) (eight-at bs 17 b (omega arith))
+        ∙ (ap (λ t. 1 ∷ (eight (word-at bs 1) ++ t)) (eight-at bs 9 b (omega arith)) ∙ (ap (λ t. 1 ∷ t) (eight-at bs 1 b (omega arith)) ∙ first 1 e (omega arith)))))
 
     few : length es ≤ 15
     few = omega (arith, length-block-entries (drop 34 bs) (getD bs 33 0), fits (drop 34 bs) (getD bs 33 0) ok .few)
 
     append-same : Same bs (append (word-at bs 1) (word-at bs 9) (word-at bs 17) (word-at bs 25) es)
     unfolding letter-bytes
-    append-same =
-        ( appended
-        , (word-small bs 1 b, word-small bs 9 b, word-small bs 17 b, word-small bs 25 b, few, entries-fit (drop 34 bs) (getD bs 33 0) (bytes-drop bs 34 b) ok) )
+    append-same = (
+      appended,
+      (word-small bs 1 b, word-small bs 9 b, word-small bs 17 b, word-small bs 25 b, few, entries-fit (drop 34 bs) (getD bs 33 0) (bytes-drop bs 34 b) ok),
+    )
 
   -- each kind
   module _ (l : Letter) where
@@ -138,24 +139,30 @@ module _ (bs : List ℕ) (b : Bytes bs) where
 
 pub one-to-one : One-to-one
 one-to-one bs l b h =
-    elim (cases-eq (kind bs) 1)
-    [ inl e ↦ is-append bs b l e (sym (kind-1 bs e) ∙ h)
-    | inr n₁ ↦
-        elim (cases-eq (kind bs) 2)
-        [ inl e ↦ is-append-response bs b l e (sym (kind-2 bs e) ∙ h)
-        | inr n₂ ↦
-            elim (cases-eq (kind bs) 3)
-            [ inl e ↦ is-append-reject bs b l e (sym (kind-3 bs e) ∙ h)
-            | inr n₃ ↦
-                elim (cases-eq (kind bs) 4)
-                [ inl e ↦ is-request-vote bs b l e (sym (kind-4 bs e) ∙ h)
-                | inr n₄ ↦
-                    elim (cases-eq (kind bs) 5)
-                    [ inl e ↦ is-request-vote-response bs b l e (sym (kind-5 bs e) ∙ h)
-                    | inr n₅ ↦
-                        elim (cases-eq (kind bs) 6)
-                        [ inl e ↦ is-term-notice bs b l e (sym (kind-6 bs e) ∙ h)
-                        | inr n₆ ↦ never (sym (kind-none bs n₁ n₂ n₃ n₄ n₅ n₆) ∙ h) ] ] ] ] ] ]
+    elim (cases-eq (kind bs) 1) [
+      | inl e ↦ is-append bs b l e (sym (kind-1 bs e) ∙ h)
+      | inr n₁ ↦
+          elim (cases-eq (kind bs) 2) [
+            | inl e ↦ is-append-response bs b l e (sym (kind-2 bs e) ∙ h)
+            | inr n₂ ↦
+                elim (cases-eq (kind bs) 3) [
+                  | inl e ↦ is-append-reject bs b l e (sym (kind-3 bs e) ∙ h)
+                  | inr n₃ ↦
+                      elim (cases-eq (kind bs) 4) [
+                        | inl e ↦ is-request-vote bs b l e (sym (kind-4 bs e) ∙ h)
+                        | inr n₄ ↦
+                            elim (cases-eq (kind bs) 5) [
+                              | inl e ↦ is-request-vote-response bs b l e (sym (kind-5 bs e) ∙ h)
+                              | inr n₅ ↦
+                                  elim (cases-eq (kind bs) 6) [
+                                    | inl e ↦ is-term-notice bs b l e (sym (kind-6 bs e) ∙ h)
+                                    | inr n₆ ↦ never (sym (kind-none bs n₁ n₂ n₃ n₄ n₅ n₆) ∙ h)
+                                  ]
+                            ]
+                      ]
+                ]
+          ]
+    ]
   where
     never : none ≡ some l → Same bs l
     never e = let z : _≡_ {A = ℕ} 0 1 = cc in absurd (omega arith)

@@ -64,8 +64,8 @@ unfolding letter-bytes
 letter-all (append t p q k es) f =
     one-all 1 t (eight p ++ (eight q ++ (eight k ++ (length es ∷ block-bytes es)))) (omega arith)
     (more-all p (eight q ++ (eight k ++ (length es ∷ block-bytes es)))
-     (more-all q (eight k ++ (length es ∷ block-bytes es))
-      (more-all k (length es ∷ block-bytes es) (bytes-cons (length es) (block-bytes es) (omega (arith, f .4)) (block-all es (f .5))))))
+    (more-all q (eight k ++ (length es ∷ block-bytes es))
+    (more-all k (length es ∷ block-bytes es) (bytes-cons (length es) (block-bytes es) (omega (arith, f .4)) (block-all es (f .5))))))
 letter-all (append-response t i) f = one-all 2 t (eight i) (omega arith) (bytes-eight i)
 letter-all (append-reject t p h) f = one-all 3 t (eight p ++ eight h) (omega arith) (more-all p (eight h) (bytes-eight h))
 letter-all (request-vote t i q) f = one-all 4 t (eight i ++ eight q) (omega arith) (more-all i (eight q) (bytes-eight q))

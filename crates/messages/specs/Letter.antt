@@ -60,10 +60,10 @@ unfoldable pub letter-of : List ℕ → Option Letter
 letter-of bs =
     cond (eqb (kind bs) 1) (append-of bs)
     (cond (eqb (kind bs) 2) (append-response-of bs)
-     (cond (eqb (kind bs) 3) (append-reject-of bs)
-      (cond (eqb (kind bs) 4) (request-vote-of bs)
-       (cond (eqb (kind bs) 5) (request-vote-response-of bs)
-        (cond (eqb (kind bs) 6) (term-notice-of bs) none)))))
+    (cond (eqb (kind bs) 3) (append-reject-of bs)
+    (cond (eqb (kind bs) 4) (request-vote-of bs)
+    (cond (eqb (kind bs) 5) (request-vote-response-of bs)
+    (cond (eqb (kind bs) 6) (term-notice-of bs) none)))))
 
 -- a letter that a machine can make: numbers of 64 bits, at most 15 entries, values of at most 256 bytes
 abbrev pub Letter-fits : Letter → Type 0

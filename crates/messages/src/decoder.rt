@@ -2,11 +2,6 @@
 ghost use mathlib.Core.Path.{_≡_};
 ghost use Rattle.messages.specs.Letter.{append-of, append-response-of, append-reject-of, request-vote-of, request-vote-response-of, term-notice-of, letter-of};
 ghost use Rattle.messages.specs.Message.{Gives, Readable};
-
-use raft_log::Index;
-use raft_log::Term;
-use raft_log::block::is_valid_block;
-use raft_log::bytes::get_u64;
 use super::APPEND;
 use super::APPEND_REJECT;
 use super::APPEND_RESPONSE;
@@ -20,6 +15,10 @@ use super::REQUEST_VOTE_RESPONSE;
 use super::SECOND;
 use super::TERM_NOTICE;
 use super::THIRD;
+use raft_log::Index;
+use raft_log::Term;
+use raft_log::block::is_valid_block;
+use raft_log::bytes::get_u64;
 
 fn append(bytes: &[u8]) -> Option<Message>
     ensures is { λ r. ⌜ Gives (append-of (now (bytes .entry))) (now (bytes .entry)) r ⌝ }

@@ -7,10 +7,6 @@ ghost use Rattle.raft_log.specs.Layout.{memory-words};
 ghost use Rattle.raft_log.specs.Bytes.{eight, laid};
 ghost use Rattle.messages.specs.Letter.{bit, letter-bytes};
 ghost use Rattle.messages.specs.Message.{letter-from, Sendable};
-
-use raft_log::Index;
-use raft_log::block_writer::write_block;
-use raft_log::bytes::put_u64;
 use super::APPEND;
 use super::APPEND_REJECT;
 use super::APPEND_RESPONSE;
@@ -24,6 +20,9 @@ use super::REQUEST_VOTE_RESPONSE;
 use super::SECOND;
 use super::TERM_NOTICE;
 use super::THIRD;
+use raft_log::Index;
+use raft_log::block_writer::write_block;
+use raft_log::bytes::put_u64;
 
 // A kind and one number; says where they end, as those below.
 fn put_one(out: &mut [u8], kind: u8, first: u64) -> usize
@@ -83,18 +82,28 @@ pub fn encode(message: Message, memory: &[u64], out: &mut [u8]) -> usize
     ensures put { λ r. ⌜ now (out .exit) ≡ letter-bytes (letter-from (now (memory .entry)) message) ++ drop r (now (out .entry)) ⌝ }
 {
     match message {
-        Message::Append { term, prev_index, prev_term, commit, count } => {
+        Message::Append {
+            term,
+            prev_index,
+            prev_term,
+            commit,
+            count,
+        } => {
             put_three(out, APPEND, term.0, prev_index.0, prev_term.0);
             put_count(out, commit, count);
             write_block(memory, Index(prev_index.0 + 1), count, out, BLOCK_AT)
         }
         Message::AppendResponse { term, index } => put_two(out, APPEND_RESPONSE, term.0, index.0),
-        Message::AppendReject { term, prev_index, hint } => {
-            put_three(out, APPEND_REJECT, term.0, prev_index.0, hint.0)
-        }
-        Message::RequestVote { term, last_index, last_term } => {
-            put_three(out, REQUEST_VOTE, term.0, last_index.0, last_term.0)
-        }
+        Message::AppendReject {
+            term,
+            prev_index,
+            hint,
+        } => { put_three(out, APPEND_REJECT, term.0, prev_index.0, hint.0) }
+        Message::RequestVote {
+            term,
+            last_index,
+            last_term,
+        } => { put_three(out, REQUEST_VOTE, term.0, last_index.0, last_term.0) }
         Message::RequestVoteResponse { term, granted } => {
             put_one(out, REQUEST_VOTE_RESPONSE, term.0);
             put_granted(out, granted)

@@ -11,16 +11,24 @@ pub mod theorems;
 
 /// The first byte of a letter says what it is.
 const APPEND: u8 = 1;
+
 const APPEND_RESPONSE: u8 = 2;
+
 const APPEND_REJECT: u8 = 3;
+
 const REQUEST_VOTE: u8 = 4;
+
 const REQUEST_VOTE_RESPONSE: u8 = 5;
+
 const TERM_NOTICE: u8 = 6;
 
 /// Where the numbers of a letter stand, behind its kind.
 const FIRST: usize = 1;
+
 const SECOND: usize = 9;
+
 const THIRD: usize = 17;
+
 const FOURTH: usize = 25;
 /// Where an append says how many entries it has.
 const COUNT_AT: usize = 33;
@@ -41,12 +49,28 @@ pub enum Message {
         count: usize,
     },
     /// The log agrees with the leader's up to `index`.
-    AppendResponse { term: Term, index: Index },
+    AppendResponse {
+        term: Term,
+        index: Index,
+    },
     /// There is no entry at `prev_index` with the leader's term; `hint` is where the two may agree.
-    AppendReject { term: Term, prev_index: Index, hint: Index },
+    AppendReject {
+        term: Term,
+        prev_index: Index,
+        hint: Index,
+    },
     /// Asks for a vote, and says how far the candidate's log goes.
-    RequestVote { term: Term, last_index: Index, last_term: Term },
-    RequestVoteResponse { term: Term, granted: bool },
+    RequestVote {
+        term: Term,
+        last_index: Index,
+        last_term: Term,
+    },
+    RequestVoteResponse {
+        term: Term,
+        granted: bool,
+    },
     /// Only tells a term.
-    TermNotice { term: Term },
+    TermNotice {
+        term: Term,
+    },
 }

@@ -3,13 +3,12 @@ ghost use mathlib.Core.Path.{_≡_};
 ghost use Prim.Native.Nat.{_≤_};
 ghost use lib.ListN.{length};
 ghost use Rattle.raft_log.specs.Layout.{memory-words};
-
+use super::decoder::decode;
+use super::encoder::encode;
 use super::*;
 use raft_log::entries::append_value;
 use raft_log::layout::MEMORY_WORDS;
 use std::test::*;
-use super::decoder::decode;
-use super::encoder::encode;
 
 // Fifteen entries of terms 1 to 15, with values as long as they can be.
 fn fill(memory: &mut [u64])
@@ -43,7 +42,15 @@ fn a_full_append_comes_back() -> Result<(), Fail> {
     };
     let long = encode(sent, &memory, &mut out);
     check_eq(long, 4024)?;
-    let Some(Message::Append { term, commit, count, .. }) = decode(&out[..long]) else {
+    let Some(
+        Message::Append {
+            term,
+            commit,
+            count,
+            ..
+        },
+    ) = decode(&out[..long])
+    else {
         return Err(Fail::new("no append"));
     };
     check_eq(term.0, 300)?;

@@ -23,17 +23,19 @@ pub majority-is : (ks : List ℕ) (c b : ℕ) → Committed ks c → majority-be
 unfolding majority-below
 majority-is ks c zero q = sym (cond-false (ltb c 0) c 0 (le-ltb c 0 (omega arith)))
 majority-is ks c (suc b) q =
-    elim (cases-lt c (suc b))
-    [ inl l ↦
-        elim (cases-bool (most-of (reached ks (suc b)) (length ks)))
-        [ inl e ↦ absurd (omega (arith, q .largest (suc b) (ltb-true (length ks) (2 * reached ks (suc b)) e)))
-        | inr e ↦
-            cond-false (most-of (reached ks (suc b)) (length ks)) (suc b) (majority-below ks b) e
-            ∙ (majority-is ks c b q ∙ (at-most-same c b (omega arith) ∙ sym (at-most-same c (suc b) (omega arith)))) ]
-    | inr l ↦
-        let more = reached-falls ks (suc b) c l in
-        cond-true (most-of (reached ks (suc b)) (length ks)) (suc b) (majority-below ks b) (lt-ltb (length ks) (2 * reached ks (suc b)) (omega (arith, q .quorum)))
-        ∙ sym (cond-false (ltb c (suc b)) c (suc b) (le-ltb c (suc b) l)) ]
+    elim (cases-lt c (suc b)) [
+      | inl l ↦
+          elim (cases-bool (most-of (reached ks (suc b)) (length ks))) [
+            | inl e ↦ absurd (omega (arith, q .largest (suc b) (ltb-true (length ks) (2 * reached ks (suc b)) e)))
+            | inr e ↦
+                cond-false (most-of (reached ks (suc b)) (length ks)) (suc b) (majority-below ks b) e
+                ∙ (majority-is ks c b q ∙ (at-most-same c b (omega arith) ∙ sym (at-most-same c (suc b) (omega arith))))
+          ]
+      | inr l ↦
+          let more = reached-falls ks (suc b) c l in
+          cond-true (most-of (reached ks (suc b)) (length ks)) (suc b) (majority-below ks b) (lt-ltb (length ks) (2 * reached ks (suc b)) (omega (arith, q .quorum)))
+          ∙ sym (cond-false (ltb c (suc b)) c (suc b) (le-ltb c (suc b) l))
+    ]
 
 row-width : (n : ℕ) → 15 + n - 15 ≡ n
 row-width n = omega arith

@@ -29,6 +29,7 @@ pub row-put-same : (m : List ℕ) (base : ℕ) (f : ℕ → ℕ) (n j : ℕ) →
 unfolding row-put
 row-put-same m base f zero j l r = absurd (omega arith)
 row-put-same m base f (suc n) j l r =
-    elim (cases-eq j n)
-    [ inl e ↦ rw e (getD-set-same (row-put m base f n) (base + n) (f n) 0 (omega (arith, length-row-put m base f n)))
-    | inr ne ↦ getD-set-other (row-put m base f n) (base + n) (base + j) (f n) 0 (omega arith) ∙ row-put-same m base f n j (omega arith) (omega arith) ]
+    elim (cases-eq j n) [
+      | inl e ↦ rw e (getD-set-same (row-put m base f n) (base + n) (f n) 0 (omega (arith, length-row-put m base f n)))
+      | inr ne ↦ getD-set-other (row-put m base f n) (base + n) (base + j) (f n) 0 (omega arith) ∙ row-put-same m base f n j (omega arith) (omega arith)
+    ]

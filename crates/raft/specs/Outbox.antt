@@ -20,7 +20,7 @@ abbrev pub due-of : ℕ → Option Due
 due-of w =
     cond (eqb w 1) (Some Append)
     (cond (eqb w 2) (Some RequestVote)
-     (cond (eqb w 3) (Some TellTerm) (cond (eqb w 4) (Some Grant) (cond (eqb w 5) (Some Deny) (cond (eqb w 6) (Some Accept) (cond (eqb w 7) (Some Reject) None))))))
+    (cond (eqb w 3) (Some TellTerm) (cond (eqb w 4) (Some Grant) (cond (eqb w 5) (Some Deny) (cond (eqb w 6) (Some Accept) (cond (eqb w 7) (Some Reject) None))))))
 
 -- which letter is due to machine j
 abbrev pub due-to : List ℕ → ℕ → Option Due

@@ -4,7 +4,6 @@ ghost use Prim.Native.Nat.{_≤_};
 ghost use lib.ListN.{length};
 ghost use Rattle.raft_log.specs.Layout.{memory-words};
 ghost use Rattle.raft.specs.Commit.{quorum-index, maybe-committed};
-
 use super::header::ClusterSize;
 use super::rows::MATCHED;
 use raft_log::Index;
@@ -16,7 +15,7 @@ use raft_log::layout::at_most;
 use tracker::committed_index;
 
 /// The largest index of the log that more than half have acknowledged.
-pub fn quorum_index(memory: &[u64], size: ClusterSize) -> Index
+pub(crate) fn quorum_index(memory: &[u64], size: ClusterSize) -> Index
     requires { ⌜ length (now memory) ≡ memory-words ⌝ ∗ ⌜ 1 ≤ size .0 ⌝ ∗ ⌜ size .0 ≤ 7 ⌝ }
     ensures { λ r. ⌜ r .0 ≡ quorum-index (now (memory .entry)) (size .0) ⌝ }
 {
@@ -27,7 +26,7 @@ pub fn quorum_index(memory: &[u64], size: ClusterSize) -> Index
 }
 
 /// Commit rises to what more than half have, if the entry there is of this term.
-pub fn maybe_commit(memory: &mut [u64], size: ClusterSize, own: Term)
+pub(crate) fn maybe_commit(memory: &mut [u64], size: ClusterSize, own: Term)
     requires { ⌜ length (now memory) ≡ memory-words ⌝ ∗ ⌜ 1 ≤ size .0 ⌝ ∗ ⌜ size .0 ≤ 7 ⌝ }
     ensures { λ _. ⌜ now (memory .exit) ≡ maybe-committed (now (memory .entry)) (size .0) (own .0) ⌝ }
 {

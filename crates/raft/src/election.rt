@@ -6,7 +6,6 @@ ghost use lib.Dec.{eqb};
 ghost use lib.ListN.{length};
 ghost use Rattle.raft_log.specs.Layout.{memory-words};
 ghost use Rattle.raft.specs.Election.{owner, older, with-role, in-term, rows-begun, led, stood, campaigned, followed, term-entered, next-term-entered, reminded, waited, asked-again, ticked, wins-now, vote-taken};
-
 use super::commit::maybe_commit;
 use super::header::ELECTION_TICKS;
 use super::header::Machine;
@@ -37,12 +36,16 @@ impl Ticks {
     fn older(self) -> Ticks
         ensures { λ r. ⌜ r ≡ older self ⌝ }
     {
-        if self.0 < ELECTION_TICKS { Ticks(self.0 + 1) } else { Ticks(ELECTION_TICKS) }
+        if self.0 < ELECTION_TICKS {
+            Ticks(self.0 + 1)
+        } else {
+            Ticks(ELECTION_TICKS)
+        }
     }
 }
 
 impl Machine {
-    pub fn with_role(self, role: Role) -> Machine
+    pub(crate) fn with_role(self, role: Role) -> Machine
         ensures { λ r. ⌜ r ≡ with-role self role ⌝ }
     {
         Machine { role, ..self }
@@ -51,7 +54,12 @@ impl Machine {
     fn in_term(self, term: Term, role: Role) -> Machine
         ensures { λ r. ⌜ r ≡ in-term self (term .0) role ⌝ }
     {
-        Machine { term, role, unsettled: true, ..self }
+        Machine {
+            term,
+            role,
+            unsettled: true,
+            ..self
+        }
     }
 
     // The only machine that may stand or lead in a term.
@@ -76,7 +84,10 @@ fn lead(memory: &mut [u64], machine: Machine, term: Term)
     ensures { λ _. ⌜ now (memory .exit) ≡ led (now (memory .entry)) machine (term .0) ⌝ }
 {
     let Some(index) = append_empty(memory, term) else {
-        store(memory, machine.in_term(term, Role::Follower(Ticks(0), false)));
+        store(
+            memory,
+            machine.in_term(term, Role::Follower(Ticks(0), false)),
+        );
         return;
     };
     begin_rows(memory, machine.id, index);
@@ -109,7 +120,10 @@ fn follow(memory: &mut [u64], machine: Machine, term: Term, loud: bool)
     requires { ⌜ length (now memory) ≡ memory-words ⌝ ∗ ⌜ 1 ≤ machine .size .0 ⌝ }
     ensures { λ _. ⌜ now (memory .exit) ≡ followed (now (memory .entry)) machine (term .0) loud ⌝ }
 {
-    store(memory, machine.in_term(term, Role::Follower(Ticks(0), false)));
+    store(
+        memory,
+        machine.in_term(term, Role::Follower(Ticks(0), false)),
+    );
     if loud {
         say_to_others(memory, machine, Due::TellTerm);
     } else {
@@ -118,7 +132,7 @@ fn follow(memory: &mut [u64], machine: Machine, term: Term, loud: bool)
 }
 
 /// The machine goes to a term: its owner stands, any other follows and says so.
-pub fn enter_term(memory: &mut [u64], machine: Machine, term: Term, loud: bool)
+pub(crate) fn enter_term(memory: &mut [u64], machine: Machine, term: Term, loud: bool)
     requires { ⌜ length (now memory) ≡ memory-words ⌝ ∗ ⌜ 1 ≤ machine .size .0 ⌝ ∗ ⌜ machine .size .0 ≤ 7 ⌝ }
     ensures { λ _. ⌜ now (memory .exit) ≡ term-entered (now (memory .entry)) machine (term .0) loud ⌝ }
 {
@@ -200,7 +214,7 @@ fn wins(memory: &[u64], machine: Machine, elapsed: Ticks) -> bool
 }
 
 /// A candidate got a vote: with more than half it leads.
-pub fn take_vote(memory: &mut [u64], machine: Machine, elapsed: Ticks, from: MachineId)
+pub(crate) fn take_vote(memory: &mut [u64], machine: Machine, elapsed: Ticks, from: MachineId)
     requires { ⌜ length (now memory) ≡ memory-words ⌝ ∗ ⌜ 1 ≤ machine .size .0 ⌝ ∗ ⌜ machine .size .0 ≤ 7 ⌝ ∗ ⌜ from .0 < 7 ⌝ }
     ensures { λ _. ⌜ now (memory .exit) ≡ vote-taken (now (memory .entry)) machine elapsed (from .0) ⌝ }
 {

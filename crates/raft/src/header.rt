@@ -4,7 +4,6 @@ ghost use Prim.Native.Nat.{_≤_};
 ghost use lib.ListN.{length};
 ghost use Rattle.raft_log.specs.Layout.{memory-words};
 ghost use Rattle.raft.specs.Header.{at-least, size-of, role-of, role-word, elapsed-word, heard-word, flag-word, loaded, stored};
-
 use raft_log::MachineId;
 use raft_log::Number;
 use raft_log::Term;
@@ -12,15 +11,23 @@ use raft_log::layout::at_most;
 
 /// Ticks that a machine waits for a leader before it goes to the next term.
 pub const ELECTION_TICKS: u64 = 10;
+
 pub const MAX_SIZE: u64 = 7;
 
 const SIZE: usize = 0;
+
 const ID: usize = 1;
+
 const TERM: usize = 2;
+
 const ROLE: usize = 3;
+
 const ELAPSED: usize = 4;
+
 const SINCE: usize = 5;
+
 const UNSETTLED: usize = 6;
+
 const HEARD: usize = 7;
 
 /// How many machines there are.
@@ -53,7 +60,7 @@ pub struct Machine {
 }
 
 /// The larger of two numbers.
-pub fn at_least(n: u64, limit: u64) -> u64
+pub(crate) fn at_least(n: u64, limit: u64) -> u64
     ensures is { λ r. ⌜ r ≡ at-least n limit ⌝ }
     ensures above { λ r. ⌜ limit ≤ r ⌝ }
 {

@@ -3,7 +3,6 @@ ghost use mathlib.Core.Path.{_≡_};
 ghost use lib.ListN.{length};
 ghost use Rattle.raft_log.specs.Layout.{memory-words};
 ghost use Rattle.raft.specs.Power.{belongs, restarted, powered};
-
 use super::header::ClusterSize;
 use super::header::MAX_SIZE;
 use super::header::Machine;
@@ -28,7 +27,14 @@ impl Machine {
     fn restarted(self, id: MachineId, size: ClusterSize) -> Machine
         ensures { λ r. ⌜ r ≡ restarted self (id .0) (size .0) ⌝ }
     {
-        Machine { size, id, role: Role::Follower(Ticks(0), false), since: Number(0), unsettled: false, ..self }
+        Machine {
+            size,
+            id,
+            role: Role::Follower(Ticks(0), false),
+            since: Number(0),
+            unsettled: false,
+            ..self
+        }
     }
 }
 

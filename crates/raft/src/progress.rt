@@ -5,7 +5,6 @@ ghost use lib.ListN.{length};
 ghost use Rattle.raft_log.specs.Layout.{memory-words};
 ghost use Rattle.raft.specs.Rows.{matched-at};
 ghost use Rattle.raft.specs.Progress.{after, matched-raised, spread, ack-taken, next-below, rejects-next, reject-taken};
-
 use super::commit::maybe_commit;
 use super::header::Machine;
 use super::header::at_least;
@@ -52,7 +51,7 @@ fn spread(memory: &mut [u64], machine: Machine, from: MachineId, commit: Index)
 }
 
 /// A machine has acknowledged the log up to an index.
-pub fn take_ack(memory: &mut [u64], machine: Machine, from: MachineId, index: Index)
+pub(crate) fn take_ack(memory: &mut [u64], machine: Machine, from: MachineId, index: Index)
     requires { ⌜ length (now memory) ≡ memory-words ⌝ ∗ ⌜ from .0 < 7 ⌝ ∗ ⌜ 1 ≤ machine .size .0 ⌝ ∗ ⌜ machine .size .0 ≤ 7 ⌝ }
     ensures { λ _. ⌜ now (memory .exit) ≡ ack-taken (now (memory .entry)) machine (from .0) (index .0) ⌝ }
 {
@@ -77,12 +76,16 @@ fn next_below(memory: &[u64], from: MachineId, rejected: Index, hint: Index) -> 
     ensures { λ r. ⌜ r ≡ next-below (now (memory .entry)) (from .0) (rejected .0) (hint .0) ⌝ }
 {
     let least = matched(memory, from).0 + 1;
-    let next = if hint.0 < rejected.0 { hint.0 + 1 } else { rejected.0 };
+    let next = if hint.0 < rejected.0 {
+        hint.0 + 1
+    } else {
+        rejected.0
+    };
     at_least(next, least)
 }
 
 /// A machine has rejected an append behind an index, with a hint where to go on.
-pub fn take_reject(memory: &mut [u64], from: MachineId, rejected: Index, hint: Index)
+pub(crate) fn take_reject(memory: &mut [u64], from: MachineId, rejected: Index, hint: Index)
     requires { ⌜ length (now memory) ≡ memory-words ⌝ ∗ ⌜ from .0 < 7 ⌝ }
     ensures { λ _. ⌜ now (memory .exit) ≡ reject-taken (now (memory .entry)) (from .0) (rejected .0) (hint .0) ⌝ }
 {

@@ -4,7 +4,6 @@ ghost use lib.ListN.{length};
 ghost use Rattle.std.specs.declared.result.Result.the-variants.{Ok, Err};
 ghost use Rattle.raft_log.specs.Layout.{memory-words};
 ghost use Rattle.raft.specs.Proposal.{refusal-number, with-unsettled, Proposed};
-
 use super::commit::maybe_commit;
 use super::header::Machine;
 use super::header::Role;
@@ -40,10 +39,13 @@ impl Refusal {
 }
 
 impl Machine {
-    pub fn with_unsettled(self) -> Machine
+    pub(crate) fn with_unsettled(self) -> Machine
         ensures { λ r. ⌜ r ≡ with-unsettled self ⌝ }
     {
-        Machine { unsettled: true, ..self }
+        Machine {
+            unsettled: true,
+            ..self
+        }
     }
 }
 

@@ -12,7 +12,6 @@ ghost use Rattle.messages.specs.Letter.{letter-of};
 ghost use Rattle.messages.specs.Message.{letter-in, Has-block};
 ghost use Rattle.raft.specs.Election.{vote-due};
 ghost use Rattle.raft.specs.Receive.{letter-term, heard-from, log-changes, append-taken, append-as, request-as, vote-as, response-as, reject-as, handle-with, handled, old-taken, taken-by-term, received};
-
 use super::election::enter_term;
 use super::election::take_vote;
 use super::header::Machine;
@@ -53,7 +52,11 @@ impl Machine {
     fn heard_from(self, changed: bool) -> Machine
         ensures { λ r. ⌜ r ≡ heard-from self changed ⌝ }
     {
-        Machine { role: Role::Follower(Ticks(0), true), unsettled: self.unsettled || changed, ..self }
+        Machine {
+            role: Role::Follower(Ticks(0), true),
+            unsettled: self.unsettled || changed,
+            ..self
+        }
     }
 }
 
@@ -73,7 +76,14 @@ struct Head {
     commit: Index,
 }
 
-fn take_append(memory: &mut [u64], machine: Machine, from: MachineId, head: Head, block: &[u8], count: usize)
+fn take_append(
+    memory: &mut [u64],
+    machine: Machine,
+    from: MachineId,
+    head: Head,
+    block: &[u8],
+    count: usize,
+)
     requires { ⌜ length (now memory) ≡ memory-words ⌝ ∗ ⌜ block-fits (now block) count ≡ true ⌝ }
     ensures { λ _. ⌜ now (memory .exit) ≡ append-taken (now (memory .entry)) machine (from .0) (head .prev .0) (head .«prev_term» .0) (head .commit .0) (block-entries (now (block .entry)) count) ⌝ }
 {
@@ -90,7 +100,14 @@ fn take_append(memory: &mut [u64], machine: Machine, from: MachineId, head: Head
     }
 }
 
-fn on_append(memory: &mut [u64], machine: Machine, from: MachineId, head: Head, block: &[u8], count: usize)
+fn on_append(
+    memory: &mut [u64],
+    machine: Machine,
+    from: MachineId,
+    head: Head,
+    block: &[u8],
+    count: usize,
+)
     requires { ⌜ length (now memory) ≡ memory-words ⌝ ∗ ⌜ block-fits (now block) count ≡ true ⌝ }
     ensures { λ _. ⌜ now (memory .exit) ≡ append-as (now (memory .entry)) machine (machine .role) (from .0) (head .prev .0) (head .«prev_term» .0) (head .commit .0) (block-entries (now (block .entry)) count) ⌝ }
 {
@@ -113,7 +130,13 @@ fn grants(memory: &[u64], heard: bool, last_index: Index, last_term: Term) -> bo
     is_up_to_date(memory, last_index, last_term) && !heard
 }
 
-fn on_request(memory: &mut [u64], machine: Machine, from: MachineId, last_index: Index, last_term: Term)
+fn on_request(
+    memory: &mut [u64],
+    machine: Machine,
+    from: MachineId,
+    last_index: Index,
+    last_term: Term,
+)
     requires { ⌜ length (now memory) ≡ memory-words ⌝ }
     ensures { λ _. ⌜ now (memory .exit) ≡ request-as (now (memory .entry)) (machine .role) (from .0) («last_index» .0) («last_term» .0) ⌝ }
 {
@@ -162,14 +185,37 @@ fn handle(memory: &mut [u64], machine: Machine, from: MachineId, message: Messag
     ensures { λ _. ⌜ now (memory .exit) ≡ handle-with (now (memory .entry)) machine (from .0) (letter-in (now (bytes .entry)) message) ⌝ }
 {
     match message {
-        Message::Append { term: _, prev_index, prev_term, commit, count } => {
-            let head = Head { prev: prev_index, prev_term, commit };
+        Message::Append {
+            term: _,
+            prev_index,
+            prev_term,
+            commit,
+            count,
+        } => {
+            let head = Head {
+                prev: prev_index,
+                prev_term,
+                commit,
+            };
             on_append(memory, machine, from, head, &bytes[BLOCK_AT..], count);
         }
         Message::AppendResponse { term: _, index } => on_response(memory, machine, from, index),
-        Message::AppendReject { term: _, prev_index, hint } => on_reject(memory, machine, from, prev_index, hint),
-        Message::RequestVote { term: _, last_index, last_term } => on_request(memory, machine, from, last_index, last_term),
-        Message::RequestVoteResponse { term: _, granted } => on_vote(memory, machine, from, granted),
+        Message::AppendReject {
+            term: _,
+            prev_index,
+            hint,
+        } => on_reject(memory, machine, from, prev_index, hint),
+        Message::RequestVote {
+            term: _,
+            last_index,
+            last_term,
+        } => on_request(memory, machine, from, last_index, last_term),
+        Message::RequestVoteResponse { term: _, granted } => on_vote(
+            memory,
+            machine,
+            from,
+            granted,
+        ),
         Message::TermNotice { term: _ } => {}
     }
 }
@@ -197,7 +243,13 @@ fn handle_now(memory: &mut [u64], from: MachineId, message: Message, bytes: &[u8
     handle(memory, machine, from, message, bytes);
 }
 
-fn take_by_term(memory: &mut [u64], machine: Machine, from: MachineId, message: Message, bytes: &[u8])
+fn take_by_term(
+    memory: &mut [u64],
+    machine: Machine,
+    from: MachineId,
+    message: Message,
+    bytes: &[u8],
+)
     requires { ⌜ length (now memory) ≡ memory-words ⌝ ∗ ⌜ 1 ≤ machine .size .0 ⌝ ∗ ⌜ machine .size .0 ≤ 7 ⌝ ∗ ⌜ from .0 < 7 ⌝ ∗ ⌜ Has-block (now bytes) message ⌝ }
     ensures { λ _. ⌜ now (memory .exit) ≡ taken-by-term (now (memory .entry)) machine (from .0) (letter-in (now (bytes .entry)) message) ⌝ }
 {

@@ -6,15 +6,17 @@ ghost use lib.ListN.{length, set, take, drop};
 ghost use Rattle.std.specs.shelf.Lists.{countBy};
 ghost use Rattle.raft_log.specs.Layout.{memory-words};
 ghost use Rattle.raft.specs.Rows.{row-set, only, others, vote-count, matched-at, next-at, most-of};
-
 use super::header::ClusterSize;
 use super::header::Machine;
 use raft_log::Index;
 use raft_log::MachineId;
 
 pub const VOTES: usize = 8;
+
 pub const MATCHED: usize = 15;
+
 pub const NEXT: usize = 22;
+
 pub const DUE: usize = 29;
 /// The numbers that an answer carries.
 pub const ANSWER: usize = 36;
@@ -30,11 +32,15 @@ fn only_word(machine: MachineId, word: u64, j: usize) -> u64
 fn others_word(machine: Machine, word: u64, j: usize) -> u64
     ensures { λ r. ⌜ r ≡ others machine word j ⌝ }
 {
-    if (j as u64) < machine.size.0 && j as u64 != machine.id.0 { word } else { 0 }
+    if (j as u64) < machine.size.0 && j as u64 != machine.id.0 {
+        word
+    } else {
+        0
+    }
 }
 
 /// Sets a row to a word for one machine, and 0 for the others.
-pub fn set_only(memory: &mut [u64], row: usize, machine: MachineId, word: u64)
+pub(crate) fn set_only(memory: &mut [u64], row: usize, machine: MachineId, word: u64)
     requires { ⌜ length (now memory) ≡ memory-words ⌝ ∗ ⌜ row ≤ 57 ⌝ }
     ensures { λ _. ⌜ now (memory .exit) ≡ row-set (now (memory .entry)) row (only (machine .0) word) ⌝ }
 {
@@ -44,7 +50,7 @@ pub fn set_only(memory: &mut [u64], row: usize, machine: MachineId, word: u64)
 }
 
 /// Sets a row to a word for each machine of the cluster but this one, and 0 for it and beyond.
-pub fn set_others(memory: &mut [u64], row: usize, machine: Machine, word: u64)
+pub(crate) fn set_others(memory: &mut [u64], row: usize, machine: Machine, word: u64)
     requires { ⌜ length (now memory) ≡ memory-words ⌝ ∗ ⌜ row ≤ 57 ⌝ }
     ensures { λ _. ⌜ now (memory .exit) ≡ row-set (now (memory .entry)) row (others machine word) ⌝ }
 {
@@ -54,7 +60,7 @@ pub fn set_others(memory: &mut [u64], row: usize, machine: Machine, word: u64)
 }
 
 /// Sets a row to one word.
-pub fn set_all(memory: &mut [u64], row: usize, word: u64)
+pub(crate) fn set_all(memory: &mut [u64], row: usize, word: u64)
     requires { ⌜ length (now memory) ≡ memory-words ⌝ ∗ ⌜ row ≤ 57 ⌝ }
     ensures { λ _. ⌜ now (memory .exit) ≡ row-set (now (memory .entry)) row (λ _. word) ⌝ }
 {
@@ -79,7 +85,7 @@ fn count_ones(words: &[u64]) -> u64
 }
 
 /// How many voted for this machine.
-pub fn vote_count(memory: &[u64], size: ClusterSize) -> u64
+pub(crate) fn vote_count(memory: &[u64], size: ClusterSize) -> u64
     requires { ⌜ length (now memory) ≡ memory-words ⌝ ∗ ⌜ size .0 ≤ 7 ⌝ }
     ensures is { λ r. ⌜ r ≡ vote-count (now (memory .entry)) (size .0) ⌝ }
     ensures most { λ r. ⌜ r ≤ 7 ⌝ }
@@ -88,7 +94,7 @@ pub fn vote_count(memory: &[u64], size: ClusterSize) -> u64
 }
 
 /// Are so many more than half?
-pub fn is_most(count: u64, size: ClusterSize) -> bool
+pub(crate) fn is_most(count: u64, size: ClusterSize) -> bool
     requires { ⌜ count ≤ 7 ⌝ }
     ensures { λ r. ⌜ r ≡ most-of count (size .0) ⌝ }
 {
@@ -96,7 +102,7 @@ pub fn is_most(count: u64, size: ClusterSize) -> bool
 }
 
 /// Notes a vote.
-pub fn set_vote(memory: &mut [u64], voter: MachineId)
+pub(crate) fn set_vote(memory: &mut [u64], voter: MachineId)
     requires { ⌜ length (now memory) ≡ memory-words ⌝ ∗ ⌜ voter .0 < 7 ⌝ }
     ensures { λ _. ⌜ now (memory .exit) ≡ set (now (memory .entry)) (8 + voter .0) 1 ⌝ }
 {
@@ -104,7 +110,7 @@ pub fn set_vote(memory: &mut [u64], voter: MachineId)
 }
 
 /// What a machine has acknowledged.
-pub fn matched(memory: &[u64], machine: MachineId) -> Index
+pub(crate) fn matched(memory: &[u64], machine: MachineId) -> Index
     requires { ⌜ length (now memory) ≡ memory-words ⌝ ∗ ⌜ machine .0 < 7 ⌝ }
     ensures { λ r. ⌜ r .0 ≡ matched-at (now (memory .entry)) (machine .0) ⌝ }
 {
@@ -112,21 +118,21 @@ pub fn matched(memory: &[u64], machine: MachineId) -> Index
 }
 
 /// The index that a machine is sent next.
-pub fn next_index(memory: &[u64], machine: MachineId) -> Index
+pub(crate) fn next_index(memory: &[u64], machine: MachineId) -> Index
     requires { ⌜ length (now memory) ≡ memory-words ⌝ ∗ ⌜ machine .0 < 7 ⌝ }
     ensures { λ r. ⌜ r .0 ≡ next-at (now (memory .entry)) (machine .0) ⌝ }
 {
     Index(memory[NEXT + machine.0 as usize])
 }
 
-pub fn set_matched(memory: &mut [u64], machine: MachineId, index: Index)
+pub(crate) fn set_matched(memory: &mut [u64], machine: MachineId, index: Index)
     requires { ⌜ length (now memory) ≡ memory-words ⌝ ∗ ⌜ machine .0 < 7 ⌝ }
     ensures { λ _. ⌜ now (memory .exit) ≡ set (now (memory .entry)) (15 + machine .0) (index .0) ⌝ }
 {
     memory[MATCHED + machine.0 as usize] = index.0;
 }
 
-pub fn set_next(memory: &mut [u64], machine: MachineId, index: Index)
+pub(crate) fn set_next(memory: &mut [u64], machine: MachineId, index: Index)
     requires { ⌜ length (now memory) ≡ memory-words ⌝ ∗ ⌜ machine .0 < 7 ⌝ }
     ensures { λ _. ⌜ now (memory .exit) ≡ set (now (memory .entry)) (22 + machine .0) (index .0) ⌝ }
 {

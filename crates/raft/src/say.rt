@@ -4,7 +4,6 @@ ghost use Prim.Native.Nat.{_<_};
 ghost use lib.ListN.{length};
 ghost use Rattle.raft_log.specs.Layout.{memory-words};
 ghost use Rattle.raft.specs.Say.{due-word, said-to-others, said-to, answered};
-
 use super::header::Machine;
 use super::rows::ANSWER;
 use super::rows::DUE;
@@ -25,7 +24,7 @@ pub enum Due {
 }
 
 impl Due {
-    pub fn word(self) -> u64
+    pub(crate) fn word(self) -> u64
         ensures { λ r. ⌜ r ≡ due-word self ⌝ }
     {
         match self {
@@ -41,7 +40,7 @@ impl Due {
 }
 
 /// A letter to each other machine.
-pub fn say_to_others(memory: &mut [u64], machine: Machine, due: Due)
+pub(crate) fn say_to_others(memory: &mut [u64], machine: Machine, due: Due)
     requires { ⌜ length (now memory) ≡ memory-words ⌝ }
     ensures { λ _. ⌜ now (memory .exit) ≡ said-to-others (now (memory .entry)) machine due ⌝ }
 {
@@ -49,7 +48,7 @@ pub fn say_to_others(memory: &mut [u64], machine: Machine, due: Due)
 }
 
 /// A letter to one machine alone.
-pub fn say_to(memory: &mut [u64], to: MachineId, due: Due)
+pub(crate) fn say_to(memory: &mut [u64], to: MachineId, due: Due)
     requires { ⌜ length (now memory) ≡ memory-words ⌝ }
     ensures { λ _. ⌜ now (memory .exit) ≡ said-to (now (memory .entry)) (to .0) due ⌝ }
 {
@@ -57,7 +56,7 @@ pub fn say_to(memory: &mut [u64], to: MachineId, due: Due)
 }
 
 /// An answer to one machine, with the numbers that it carries.
-pub fn answer(memory: &mut [u64], to: MachineId, due: Due, first: u64, second: u64)
+pub(crate) fn answer(memory: &mut [u64], to: MachineId, due: Due, first: u64, second: u64)
     requires { ⌜ length (now memory) ≡ memory-words ⌝ }
     ensures { λ _. ⌜ now (memory .exit) ≡ answered (now (memory .entry)) (to .0) due first second ⌝ }
 {

@@ -48,9 +48,10 @@ valid-drop es k h i l =
 module _ (bs : List ℕ) (n : ℕ) (ok : block-fits bs n ≡ true) (bytes : Bytes bs) where
   bytes-part : (k a : ℕ) → Bytes (take k (drop a bs))
   bytes-part k a i =
-      elim (cases-lt i k)
-      [ inl l ↦ omega (arith, getD-take k (drop a bs) i 0 l, getD-drop a bs i 0, bytes (a + i))
-      | inr l ↦ omega (arith, getD-past (take k (drop a bs)) i 0 (omega (arith, length-take k (drop a bs)))) ]
+      elim (cases-lt i k) [
+        | inl l ↦ omega (arith, getD-take k (drop a bs) i 0 l, getD-drop a bs i 0, bytes (a + i))
+        | inr l ↦ omega (arith, getD-past (take k (drop a bs)) i 0 (omega (arith, length-take k (drop a bs))))
+      ]
 
   pub valid-block : Valid (block-entries bs n)
   valid-block i l =
@@ -75,16 +76,18 @@ taken-one :
 taken-one m t none vs d v a b =
     let e : entry-pushed m (last-index m + 1) t (values m) ≡ entry-pushed m (suc (last-index m)) t (values m) = ap (λ k. entry-pushed m k t (values m)) (add-one (last-index m)) in
     let front : take (last-index m) (log-of m) ≡ log-of m = take-all (last-index m) (log-of m) (omega (arith, length-log m)) in
-    record
-    { log = ap log-of e ∙ (empty-pushed-log m (last-index m) t d (omega arith) a refl ∙ ap (λ l. l ++ entry t none ∷ []) front)
-    ; tidy = subst (λ (x : List ℕ). Tidy-entries x) (sym e) (empty-pushed-tidy m (last-index m) t d (omega arith) a refl)
-    ; header = λ i l ne. pushed-other m (last-index m + 1) t (values m) (d .long) (omega arith) (omega arith) i ne (omega arith) (omega arith) }
+    record {
+      log = ap log-of e ∙ (empty-pushed-log m (last-index m) t d (omega arith) a refl ∙ ap (λ l. l ++ entry t none ∷ []) front);
+      tidy = subst (λ (x : List ℕ). Tidy-entries x) (sym e) (empty-pushed-tidy m (last-index m) t d (omega arith) a refl);
+      header = λ i l ne. pushed-other m (last-index m + 1) t (values m) (d .long) (omega arith) (omega arith) i ne (omega arith) (omega arith);
+    }
 taken-one m t (some v) vs d s a b =
     let f = value-room m v (s .0) a (omega arith) in
-    record
-    { log = value-appended-log m t v d f (s .1)
-    ; tidy = value-appended-tidy-entries m t v d f
-    ; header = λ i l ne. appended-header m t v (d .long) f i l ne }
+    record {
+      log = value-appended-log m t v d f (s .1);
+      tidy = value-appended-tidy-entries m t v d f;
+      header = λ i l ne. appended-header m t v (d .long) f i l ne;
+    }
 
 pub taken : (m : List ℕ) (es : List Entry) → Tidy-entries m → Valid es → entries-fit m es ≡ true → Rewritten m (entries-taken m es) (log-of m ++ es)
 unfolding entries-taken entry-taken
@@ -97,10 +100,11 @@ taken m (e ∷ es) d v f =
     let m₁ : List ℕ = content-taken m (e .term) (e .content) in
     let fit : entries-fit m₁ es ≡ true = entries-fit-from m₁ es (omega (arith, k .last)) (omega (arith, k .held (decisions es))) in
     let rest = taken m₁ es (first .tidy) (λ i l. v (suc i) (omega arith)) fit in
-    record
-    { log = rest .log ∙ (ap (λ l. l ++ es) (first .log) ∙ append-assoc (log-of m) (e ∷ []) es)
-    ; tidy = rest .tidy
-    ; header = λ i l ne. rest .header i l ne ∙ first .header i l ne }
+    record {
+      log = rest .log ∙ (ap (λ l. l ++ es) (first .log) ∙ append-assoc (log-of m) (e ∷ []) es);
+      tidy = rest .tidy;
+      header = λ i l ne. rest .header i l ne ∙ first .header i l ne;
+    }
   where
     short : (o : Content (List ℕ)) → Valid-content o → Short o
     short none h = tt
@@ -117,20 +121,22 @@ module _ (m : List ℕ) (p : ℕ) (es : List Entry) (d : Tidy-entries m) (v : Va
       go : (o : Option Index) → conflict l p es ≡ o → Rewritten m (merged m p es) (spliced l p es (conflict l p es))
       go None e =
           let same = merged-none m p es e in
-          record
-          { log = ap log-of same ∙ sym (ap (spliced l p es) e)
-          ; tidy = subst (λ (x : List ℕ). Tidy-entries x) (sym same) d
-          ; header = λ i a ne. ap (λ x. getD x i 0) same }
+          record {
+            log = ap log-of same ∙ sym (ap (spliced l p es) e);
+            tidy = subst (λ (x : List ℕ). Tidy-entries x) (sym same) d;
+            header = λ i a ne. ap (λ x. getD x i 0) same;
+          }
       go (Some c) e =
           let w = conflict-within l p es c e in
           let k : ℕ = c .0 - 1 in
           let cut : k ≤ last-index m = omega (arith, length-log m, w .near (omega (arith, length-log m))) in
           let is = merged-some m p es c e in
           let t = taken (truncated m k) (drop (k - p) es) (truncated-tidy m k (d .long) cut d) (valid-drop es (k - p) v) (sym (merges-some m p es c e) ∙ ok) in
-          record
-          { log = ap log-of is ∙ (t .log ∙ (ap (λ x. x ++ drop (k - p) es) (truncated-log m k (d .long) cut d) ∙ sym (ap (spliced l p es) e)))
-          ; tidy = subst (λ (x : List ℕ). Tidy-entries x) (sym is) (t .tidy)
-          ; header = λ i a ne. ap (λ x. getD x i 0) is ∙ (t .header i a ne ∙ truncated-other m k (d .long) cut i ne) }
+          record {
+            log = ap log-of is ∙ (t .log ∙ (ap (λ x. x ++ drop (k - p) es) (truncated-log m k (d .long) cut d) ∙ sym (ap (spliced l p es) e)));
+            tidy = subst (λ (x : List ℕ). Tidy-entries x) (sym is) (t .tidy);
+            header = λ i a ne. ap (λ x. getD x i 0) is ∙ (t .header i a ne ∙ truncated-other m k (d .long) cut i ne);
+          }
 
   -- all that was compared is there
   pub merged-reaches : p + length es ≤ length (log-of (merged m p es))
@@ -140,9 +146,15 @@ module _ (m : List ℕ) (p : ℕ) (es : List Entry) (d : Tidy-entries m) (v : Va
       go None e = omega (arith, ap length (merged-rewritten .log ∙ ap (spliced l p es) e), conflict-none-long l p es (omega (arith, length-log m)) e)
       go (Some c) e =
           let w = conflict-within l p es c e in
-          omega
-          (arith, ap length (merged-rewritten .log ∙ ap (spliced l p es) e), length-append (take (c .0 - 1) l) (drop (c .0 - 1 - p) es),
-           length-take-le (c .0 - 1) l (omega (arith, w .near (omega (arith, length-log m)))), length-drop (c .0 - 1 - p) es, w .behind, w .upto)
+          omega (
+            arith,
+            ap length (merged-rewritten .log ∙ ap (spliced l p es) e),
+            length-append (take (c .0 - 1) l) (drop (c .0 - 1 - p) es),
+            length-take-le (c .0 - 1) l (omega (arith, w .near (omega (arith, length-log m)))),
+            length-drop (c .0 - 1 - p) es,
+            w .behind,
+            w .upto,
+          )
 
 commit-read : (m : List ℕ) → commit-index m ≡ at-most (getD m 65 0) (last-index m)
 unfolding commit-index
@@ -172,7 +184,7 @@ module _ (m : List ℕ) (k : ℕ) (long : length m ≡ memory-words) where
   commit-noted-commit b =
       commit-read (commit-noted m k)
       ∙ (ap (λ x. at-most x (last-index (commit-noted m k))) commit-noted-word
-         ∙ at-most-same (max (commit-index m) k) (last-index (commit-noted m k)) (omega (arith, commit-noted-entries .last, commit-most m)))
+      ∙ at-most-same (max (commit-index m) k) (last-index (commit-noted m k)) (omega (arith, commit-noted-entries .last, commit-most m)))
 
 -- AN APPEND THAT IS TAKEN
 module _ (m : List ℕ) (p q k : ℕ) (es : List Entry) (d : Tidy m) (v : Valid es) (ok : accepts m p q es ≡ true) where
@@ -233,9 +245,10 @@ module _ (m : List ℕ) (p q k : ℕ) (es : List Entry) (d : Tidy m) (v : Valid 
   unfolding accepted
   accepted-tidy =
       let long = changed .tidy .long in
-      record
-      { entries =
-          same-tidy (merged m p es) (accepted m p k es) (length-commit-noted (merged m p es) told long) (commit-noted-other (merged m p es) told long 64 (omega arith))
-          (λ i a. commit-noted-other (merged m p es) told long i (omega arith)) (changed .tidy)
-      ; commit = omega (arith, commit-noted-word (merged m p es) told long, commit-most (merged m p es), told-least, reaches, same .last)
-      ; applied = omega (arith, accepted-header 66 (omega arith) (omega arith) (omega arith), d .applied) }
+      record {
+        entries =
+            same-tidy (merged m p es) (accepted m p k es) (length-commit-noted (merged m p es) told long) (commit-noted-other (merged m p es) told long 64 (omega arith))
+            (λ i a. commit-noted-other (merged m p es) told long i (omega arith)) (changed .tidy);
+        commit = omega (arith, commit-noted-word (merged m p es) told long, commit-most (merged m p es), told-least, reaches, same .last);
+        applied = omega (arith, accepted-header 66 (omega arith) (omega arith) (omega arith), d .applied);
+      }

@@ -56,15 +56,15 @@ module _ (m : List ℕ) (i t n : ℕ) (long : length m ≡ memory-words) (some :
   pushed-term =
       term-in pushed i some (omega (arith, pushed-last))
       ∙ (getD-set-other (entry-put m i t n) 64 (entry-row i) i 0 (omega arith)
-         ∙ (getD-set-other (set m (entry-row i) t) (entry-row i + 1) (entry-row i) n 0 (omega arith) ∙ getD-set-same m (entry-row i) t 0 (omega arith)))
+      ∙ (getD-set-other (set m (entry-row i) t) (entry-row i + 1) (entry-row i) n 0 (omega arith) ∙ getD-set-same m (entry-row i) t 0 (omega arith)))
 
   pub pushed-number : n ≤ 4096 → number-at pushed i ≡ n
   pushed-number b =
       number-in pushed i some (omega (arith, pushed-last))
       ∙ (ap (λ x. at-most x 4096)
-            (getD-set-other (entry-put m i t n) 64 (entry-row i + 1) i 0 (omega arith)
-             ∙ getD-set-same (set m (entry-row i) t) (entry-row i + 1) n 0 (simp length-set (omega arith)))
-         ∙ at-most-same n 4096 b)
+      (getD-set-other (entry-put m i t n) 64 (entry-row i + 1) i 0 (omega arith)
+      ∙ getD-set-same (set m (entry-row i) t) (entry-row i + 1) n 0 (simp length-set (omega arith)))
+      ∙ at-most-same n 4096 b)
 
   pub pushed-values : n ≤ 4096 → values pushed ≡ n
   pushed-values b = ap (number-at pushed) pushed-last ∙ pushed-number b
@@ -229,9 +229,10 @@ Roomy m = last-index m ≤ 2 * values m + cond (last-is-empty m) 1 0
 
 pub roomy-empty : (m : List ℕ) → Roomy m → empty-place m ≤ 2 * values m + 1
 roomy-empty m r =
-    elim (cases-bool (last-is-empty m))
-    [ inl e ↦ rw (cond-true (last-is-empty m) (last-index m) (last-index m + 1) e) (omega (arith, rw e at r))
-    | inr e ↦ rw (cond-false (last-is-empty m) (last-index m) (last-index m + 1) e) (omega (arith, rw e at r)) ]
+    elim (cases-bool (last-is-empty m)) [
+      | inl e ↦ rw (cond-true (last-is-empty m) (last-index m) (last-index m + 1) e) (omega (arith, rw e at r))
+      | inr e ↦ rw (cond-false (last-is-empty m) (last-index m) (last-index m + 1) e) (omega (arith, rw e at r))
+    ]
 
 pub roomy-fits : (m : List ℕ) → Roomy m → empty-fits m ≡ true
 roomy-fits m r = le-leb (empty-place m) 8193 (omega (arith, roomy-empty m r, number-most m (last-index m)))
@@ -250,23 +251,24 @@ module _ (m : List ℕ) (t : ℕ) (long : length m ≡ memory-words) (fits : emp
   -- as many values stand up to the place before
   before-empty : number-at after (empty-place m - 1) ≡ values m
   before-empty =
-      elim (cases-bool (last-is-empty m))
-      [ inl e ↦
-          let p : empty-place m ≡ last-index m = cond-true (last-is-empty m) (last-index m) (last-index m + 1) e in
-          let b = and-parts (leb 1 (last-index m)) (eqb (values m) (number-at m (last-index m - 1))) e in
-          empty-numbers m t long fits (empty-place m - 1) (omega (arith, empty-some m t long fits)) (omega arith)
-          ∙ (ap (λ i. number-at m (i - 1)) p ∙ sym (eqb-true (values m) (number-at m (last-index m - 1)) (b .1)))
-      | inr e ↦
-          let p : empty-place m ≡ last-index m + 1 = cond-false (last-is-empty m) (last-index m) (last-index m + 1) e in
-          let q : empty-place m - 1 ≡ last-index m = omega arith in
-          empty-numbers m t long fits (empty-place m - 1) (omega arith) (omega arith) ∙ ap (number-at m) q ]
+      elim (cases-bool (last-is-empty m)) [
+        | inl e ↦
+            let p : empty-place m ≡ last-index m = cond-true (last-is-empty m) (last-index m) (last-index m + 1) e in
+            let b = and-parts (leb 1 (last-index m)) (eqb (values m) (number-at m (last-index m - 1))) e in
+            empty-numbers m t long fits (empty-place m - 1) (omega (arith, empty-some m t long fits)) (omega arith)
+            ∙ (ap (λ i. number-at m (i - 1)) p ∙ sym (eqb-true (values m) (number-at m (last-index m - 1)) (b .1)))
+        | inr e ↦
+            let p : empty-place m ≡ last-index m + 1 = cond-false (last-is-empty m) (last-index m) (last-index m + 1) e in
+            let q : empty-place m - 1 ≡ last-index m = omega arith in
+            empty-numbers m t long fits (empty-place m - 1) (omega arith) (omega arith) ∙ ap (number-at m) q
+      ]
 
   pub empty-is-last : last-is-empty after ≡ true
   empty-is-last =
       and-from (leb 1 (last-index after)) (eqb (values after) (number-at after (last-index after - 1)))
       (le-leb 1 (last-index after) (omega (arith, empty-last m t long fits, empty-some m t long fits)))
       (eq-eqb (values after) (number-at after (last-index after - 1))
-       (empty-values m t long fits ∙ sym (ap (λ i. number-at after (i - 1)) (empty-last m t long fits) ∙ before-empty)))
+      (empty-values m t long fits ∙ sym (ap (λ i. number-at after (i - 1)) (empty-last m t long fits) ∙ before-empty)))
 
   pub roomy-emptied : Roomy m → Roomy after
   roomy-emptied r =

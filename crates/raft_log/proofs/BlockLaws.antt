@@ -87,25 +87,26 @@ module _ (es : List Entry) (f : Entries-fit es) where
   offset-back (suc i) l =
       let e : i + 1 ≡ suc i = omega arith in
       let o : value-offset bs n (i + 1) ≡ 10 * n + length (values-bytes (take (i + 1) es)) =
-            omega
-            ( arith
-            , value-offset-more bs n i
-            , offset-back i (omega arith)
-            , row-length-back i (omega arith)
-            , ap length (values-take-more es i (omega arith))
-            , length-append (values-bytes (take i es)) (content-bytes (getD es i no-entry .content)) ) in
+      omega (
+        arith,
+        value-offset-more bs n i,
+        offset-back i (omega arith),
+        row-length-back i (omega arith),
+        ap length (values-take-more es i (omega arith)),
+        length-append (values-bytes (take i es)) (content-bytes (getD es i no-entry .content)),
+      ) in
       rw e at o
 
   value-back : (i : ℕ) → i < n → take (row-length bs i) (drop (value-offset bs n i) bs) ≡ content-bytes (getD es i no-entry .content)
   value-back i l =
       let k : ℕ = length (values-bytes (take i es)) in
       let whole : values-bytes es ≡ values-bytes (take i es) ++ values-bytes (drop i es) =
-            sym (ap values-bytes (take-append-drop i es)) ∙ values-append (take i es) (drop i es) in
+      sym (ap values-bytes (take-append-drop i es)) ∙ values-append (take i es) (drop i es) in
       let d : drop (value-offset bs n i) bs ≡ values-bytes (drop i es) =
-            ap (λ x. drop x bs) (offset-back i (omega arith))
-            ∙ (sym (drop-drop k (10 * n) bs)
-               ∙ (ap (drop k) (drop-at (table-bytes es) (values-bytes es) (10 * n) (length-table es))
-                  ∙ (ap (drop k) whole ∙ drop-at (values-bytes (take i es)) (values-bytes (drop i es)) k refl))) in
+      ap (λ x. drop x bs) (offset-back i (omega arith))
+      ∙ (sym (drop-drop k (10 * n) bs)
+      ∙ (ap (drop k) (drop-at (table-bytes es) (values-bytes es) (10 * n) (length-table es))
+      ∙ (ap (drop k) whole ∙ drop-at (values-bytes (take i es)) (values-bytes (drop i es)) k refl))) in
       ap (take (row-length bs i)) (d ∙ values-drop es i l)
       ∙ take-at (content-bytes (getD es i no-entry .content)) (values-bytes (drop (i + 1) es)) (row-length bs i) (sym (row-length-back i l))
 
@@ -118,7 +119,7 @@ module _ (es : List Entry) (f : Entries-fit es) where
       let e : Entry = getD es i no-entry in
       let t : row-term bs i ≡ e .term = row-term-back es (values-bytes es) i f l in
       let c : content-of (row-code bs i) (take (row-length bs i) (drop (value-offset bs n i) bs)) ≡ e .content =
-            content-back (e .content) (row-code bs i) (take (row-length bs i) (drop (value-offset bs n i) bs)) (row-code-back es (values-bytes es) i f l) (value-back i l) in
+      content-back (e .content) (row-code bs i) (take (row-length bs i) (drop (value-offset bs n i) bs)) (row-code-back es (values-bytes es) i f l) (value-back i l) in
       let at : ℕ → Option (List ℕ) → Entry = λ x y. record { term = x; content = y } in
       ap (λ x. at x (content-of (row-code bs i) (take (row-length bs i) (drop (value-offset bs n i) bs)))) t ∙ ap (at (e .term)) c
 
@@ -135,7 +136,7 @@ module _ (es : List Entry) (f : Entries-fit es) where
   codes-back (suc i) l =
       let e : i + 1 ≡ suc i = omega arith in
       let s : row-code bs i ≤ 257 =
-            omega (arith, row-code-back es (values-bytes es) i f (omega arith), content-short (getD es i no-entry .content) (entry-fits es i f (omega arith))) in
+      omega (arith, row-code-back es (values-bytes es) i f (omega arith), content-short (getD es i no-entry .content) (entry-fits es i f (omega arith))) in
       rw e at (codes-fit-more bs i (codes-back i (omega arith)) s)
 
   -- and it is a block from its first byte to its last
@@ -146,7 +147,7 @@ module _ (es : List Entry) (f : Entries-fit es) where
       let end : value-offset bs n n ≡ length bs = omega (arith, offset-back n (omega arith), ap (λ x. length (values-bytes x)) (take-all n es (omega arith))) in
       and-from (leb n 15) (leb (10 * n) (length bs) && (codes-fit bs n && eqb (value-offset bs n n) (length bs))) (le-leb n 15 few)
       (and-from (leb (10 * n) (length bs)) (codes-fit bs n && eqb (value-offset bs n n) (length bs)) (le-leb (10 * n) (length bs) (omega arith))
-       (and-from (codes-fit bs n) (eqb (value-offset bs n n) (length bs)) (codes-back n (omega arith)) (eq-eqb (value-offset bs n n) (length bs) end)))
+      (and-from (codes-fit bs n) (eqb (value-offset bs n n) (length bs)) (codes-back n (omega arith)) (eq-eqb (value-offset bs n n) (length bs) end)))
 
 content-bytes-short : (c : Option (List ℕ)) → Content-fits c → length (content-bytes c) ≤ 256
 content-bytes-short none f = omega arith

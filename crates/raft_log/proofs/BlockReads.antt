@@ -32,27 +32,30 @@ pub codes-fit-stop : (bs : List ℕ) (n i : ℕ) → i < n → 257 < row-code bs
 unfolding codes-fit
 codes-fit-stop bs zero i l h = absurd (omega arith)
 codes-fit-stop bs (suc n) i l h =
-    elim (cases-eq i n)
-    [ inl e ↦ and-right (codes-fit bs n) (leb (row-code bs n) 257) (lt-leb (row-code bs n) 257 (rw e at h))
-    | inr ne ↦ and-left (codes-fit bs n) (leb (row-code bs n) 257) (codes-fit-stop bs n i (omega arith) h) ]
+    elim (cases-eq i n) [
+      | inl e ↦ and-right (codes-fit bs n) (leb (row-code bs n) 257) (lt-leb (row-code bs n) 257 (rw e at h))
+      | inr ne ↦ and-left (codes-fit bs n) (leb (row-code bs n) 257) (codes-fit-stop bs n i (omega arith) h)
+    ]
 
 pub code-fits : (bs : List ℕ) (n i : ℕ) → codes-fit bs n ≡ true → i < n → row-code bs i ≤ 257
 unfolding codes-fit
 code-fits bs zero i h l = absurd (omega arith)
 code-fits bs (suc n) i h l =
     let both = and-parts (codes-fit bs n) (leb (row-code bs n) 257) h in
-    elim (cases-eq i n)
-    [ inl e ↦ rw e (leb-true (row-code bs n) 257 (both .1))
-    | inr ne ↦ code-fits bs n i (both .0) (omega arith) ]
+    elim (cases-eq i n) [
+      | inl e ↦ rw e (leb-true (row-code bs n) 257 (both .1))
+      | inr ne ↦ code-fits bs n i (both .0) (omega arith)
+    ]
 
 -- the values stand one behind the other
 pub value-offset-rises : (bs : List ℕ) (n i j : ℕ) → i ≤ j → value-offset bs n i ≤ value-offset bs n j
 unfolding value-offset
 value-offset-rises bs n i zero l = let e : i ≡ 0 = omega arith in rw e (omega arith)
 value-offset-rises bs n i (suc j) l =
-    elim (cases-eq i (suc j))
-    [ inl e ↦ rw e (omega arith)
-    | inr ne ↦ omega (arith, value-offset-rises bs n i j (omega arith)) ]
+    elim (cases-eq i (suc j)) [
+      | inl e ↦ rw e (omega arith)
+      | inr ne ↦ omega (arith, value-offset-rises bs n i j (omega arith))
+    ]
 
 -- what a block that fits says
 pub record Fits (bs : List ℕ) (n : ℕ) : Type 0 where
@@ -69,9 +72,10 @@ fits bs n h =
     let p₁ = and-parts (leb (10 * n) (length bs)) (codes-fit bs n && eqb (value-offset bs n n) (length bs)) (p₀ .1) in
     let p₂ = and-parts (codes-fit bs n) (eqb (value-offset bs n n) (length bs)) (p₁ .1) in
     let e : value-offset bs n n ≡ length bs = eqb-true (value-offset bs n n) (length bs) (p₂ .1) in
-    record
-      { few = leb-true n 15 (p₀ .0)
-      ; table = leb-true (10 * n) (length bs) (p₁ .0)
-      ; codes = λ i l. code-fits bs n i (p₂ .0) l
-      ; end = e
-      ; within = λ i l. omega (arith, value-offset-more bs n i, value-offset-rises bs n (i + 1) n (omega arith)) }
+    record {
+      few = leb-true n 15 (p₀ .0);
+      table = leb-true (10 * n) (length bs) (p₁ .0);
+      codes = λ i l. code-fits bs n i (p₂ .0) l;
+      end = e;
+      within = λ i l. omega (arith, value-offset-more bs n i, value-offset-rises bs n (i + 1) n (omega arith));
+    }

@@ -44,8 +44,8 @@ module _ (bs : List ℕ) (n : ℕ) (b : Bytes bs) (f : Fits bs n) where
       let long : 10 * i + 10 ≤ length bs = omega (arith, f .table) in
       ap (λ k. (eight (row-term bs i) ++ two k) ++ drop (10 * i + 10) bs) c
       ∙ (append-assoc (eight (row-term bs i)) (two (row-code bs i)) (drop (10 * i + 10) bs)
-         ∙ (ap (λ k. eight (row-term bs i) ++ (two (row-code bs i) ++ drop k bs)) e
-            ∙ (ap (λ t. eight (row-term bs i) ++ t) (two-at bs (10 * i + 8) b (omega arith)) ∙ eight-at bs (10 * i) b (omega arith))))
+      ∙ (ap (λ k. eight (row-term bs i) ++ (two (row-code bs i) ++ drop k bs)) e
+      ∙ (ap (λ t. eight (row-term bs i) ++ t) (two-at bs (10 * i + 8) b (omega arith)) ∙ eight-at bs (10 * i) b (omega arith))))
 
   table-again : (a k : ℕ) → a + k ≤ n → table-bytes (map (λ i. entry i) (counting a k)) ++ drop (10 * (a + k)) bs ≡ drop (10 * a) bs
   unfolding table-bytes
@@ -56,13 +56,13 @@ module _ (bs : List ℕ) (n : ℕ) (b : Bytes bs) (f : Fits bs n) where
       let rest : List ℕ = table-bytes (map (λ i. entry i) (counting (a + 1) k)) in
       ap (λ j. (row-bytes (entry a) ++ rest) ++ drop j bs) e
       ∙ (append-assoc (row-bytes (entry a)) rest (drop (10 * (a + 1 + k)) bs)
-         ∙ (ap (λ t. row-bytes (entry a) ++ t) (table-again (a + 1) k (omega arith) ∙ ap (λ j. drop j bs) e₁) ∙ row-again a (omega arith)))
+      ∙ (ap (λ t. row-bytes (entry a) ++ t) (table-again (a + 1) k (omega arith) ∙ ap (λ j. drop j bs) e₁) ∙ row-again a (omega arith)))
 
   value-again : (i : ℕ) → content-bytes (entry i .content) ++ drop (value-offset bs n (i + 1)) bs ≡ drop (value-offset bs n i) bs
   value-again i =
       ap (λ t. t ++ drop (value-offset bs n (i + 1)) bs) (content-again (row-code bs i) (drop (value-offset bs n i) bs))
       ∙ (ap (λ t. value i ++ t) (ap (λ j. drop j bs) (value-offset-more bs n i) ∙ sym (drop-drop (row-length bs i) (value-offset bs n i) bs))
-         ∙ take-append-drop (row-length bs i) (drop (value-offset bs n i) bs))
+      ∙ take-append-drop (row-length bs i) (drop (value-offset bs n i) bs))
 
   values-again : (a k : ℕ) → values-bytes (map (λ i. entry i) (counting a k)) ++ drop (value-offset bs n (a + k)) bs ≡ drop (value-offset bs n a) bs
   unfolding values-bytes
@@ -72,7 +72,7 @@ module _ (bs : List ℕ) (n : ℕ) (b : Bytes bs) (f : Fits bs n) where
       let rest : List ℕ = values-bytes (map (λ i. entry i) (counting (a + 1) k)) in
       ap (λ j. (content-bytes (entry a .content) ++ rest) ++ drop (value-offset bs n j) bs) e
       ∙ (append-assoc (content-bytes (entry a .content)) rest (drop (value-offset bs n (a + 1 + k)) bs)
-         ∙ (ap (λ t. content-bytes (entry a .content) ++ t) (values-again (a + 1) k) ∙ value-again a))
+      ∙ (ap (λ t. content-bytes (entry a .content) ++ t) (values-again (a + 1) k) ∙ value-again a))
 
   block-again : block-bytes (block-entries bs n) ≡ bs
   unfolding block-entries
@@ -80,18 +80,19 @@ module _ (bs : List ℕ) (n : ℕ) (b : Bytes bs) (f : Fits bs n) where
       let es : List Entry = map (λ i. entry i) (counting 0 n) in
       let z : 0 + n ≡ n = omega arith in
       let v : values-bytes es ≡ drop (10 * n) bs =
-            sym (append-nil (values-bytes es))
-            ∙ (ap (λ t. values-bytes es ++ t) (sym (drop-all (value-offset bs n (0 + n)) bs (omega (arith, ap (value-offset bs n) z, f .end))))
-               ∙ (values-again 0 n ∙ ap (λ j. drop j bs) (value-offset-none bs n))) in
+      sym (append-nil (values-bytes es))
+      ∙ (ap (λ t. values-bytes es ++ t) (sym (drop-all (value-offset bs n (0 + n)) bs (omega (arith, ap (value-offset bs n) z, f .end))))
+      ∙ (values-again 0 n ∙ ap (λ j. drop j bs) (value-offset-none bs n))) in
       ap (λ t. table-bytes es ++ t) (v ∙ ap (λ j. drop (10 * j) bs) (sym z)) ∙ table-again 0 n (omega arith)
 
   entries-again : (a k : ℕ) → a + k ≤ n → Entries-fit (map (λ i. entry i) (counting a k))
   entries-again a zero l = tt
-  entries-again a (suc k) l =
-      ( word-small bs (10 * a) b
-      , content-fits (row-code bs a) (value a) (f .codes a (omega arith)) (length-value a (omega arith))
-          (bytes-take (drop (value-offset bs n a) bs) (row-length bs a) (bytes-drop bs (value-offset bs n a) b))
-      , entries-again (a + 1) k (omega arith) )
+  entries-again a (suc k) l = (
+    word-small bs (10 * a) b,
+    content-fits (row-code bs a) (value a) (f .codes a (omega arith)) (length-value a (omega arith))
+        (bytes-take (drop (value-offset bs n a) bs) (row-length bs a) (bytes-drop bs (value-offset bs n a) b)),
+    entries-again (a + 1) k (omega arith),
+  )
 
 -- the entries of a block are written as that block
 pub block-whole : (bs : List ℕ) (n : ℕ) → Bytes bs → block-fits bs n ≡ true → block-bytes (block-entries bs n) ≡ bs

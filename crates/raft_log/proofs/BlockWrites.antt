@@ -48,8 +48,8 @@ bytes-more m base j r l =
     let f : ℕ → ℕ = λ i. byte-at m base i in
     ap (map f) (counting-append 0 (8 * j) r)
     ∙ (map-append f (counting 0 (8 * j)) (counting (0 + 8 * j) r)
-       ∙ ap (λ t. map f (counting 0 (8 * j)) ++ t)
-           (ap (λ a. map f (counting a r)) (zero-add (8 * j)) ∙ (sym (take-map-counting f (8 * j) 8 r l) ∙ ap (take r) (word-bytes m base j))))
+    ∙ ap (λ t. map f (counting 0 (8 * j)) ++ t)
+    (ap (λ a. map f (counting a r)) (zero-add (8 * j)) ∙ (sym (take-map-counting f (8 * j) 8 r l) ∙ ap (take r) (word-bytes m base j))))
 
 pub length-bytes : (m : List ℕ) (base n : ℕ) → length (bytes-at m base n) ≡ n
 length-bytes m base n = length-map-counting (λ i. byte-at m base i) 0 n
@@ -63,8 +63,8 @@ pub words-more : (m out o o₁ : List ℕ) (base i j r : ℕ) → r ≤ 8 → i 
 words-more m out o o₁ base i j r s l e e₁ =
     e₁
     ∙ (ap (λ x. laid x (i + 8 * j) (take r (eight (getD m (base + j) 0)))) e
-       ∙ (laid-more out i (i + 8 * j) (bytes-at m base (8 * j)) (take r (eight (getD m (base + j) 0))) (ap (λ n. i + n) (length-bytes m base (8 * j))) l
-          ∙ ap (laid out i) (sym (bytes-more m base j r s))))
+    ∙ (laid-more out i (i + 8 * j) (bytes-at m base (8 * j)) (take r (eight (getD m (base + j) 0))) (ap (λ n. i + n) (length-bytes m base (8 * j))) l
+    ∙ ap (laid out i) (sym (bytes-more m base j r s))))
 
 -- CONTENTS
 pub length-value-at : (m : List ℕ) (k : ℕ) → length (value-at m k) ≡ value-length m k
@@ -93,9 +93,10 @@ put-some c out v i end o e l h = rw e (record { end-is = l; is = h })
 pub slot-put : (m out o : List ℕ) (k n i : ℕ) → n ≡ value-length m k → o ≡ laid out i (bytes-at m (value-row k + 1) n) → Put out i (value-at m k) (i + n) o
 unfolding value-at
 slot-put m out o k n i e h =
-    record
-      { end-is = omega (arith, length-bytes m (value-row k + 1) (value-length m k))
-      ; is = h ∙ ap (λ x. laid out i (bytes-at m (value-row k + 1) x)) e }
+    record {
+      end-is = omega (arith, length-bytes m (value-row k + 1) (value-length m k));
+      is = h ∙ ap (λ x. laid out i (bytes-at m (value-row k + 1) x)) e;
+    }
 
 -- ROWS
 pub row-put : (out o o₁ : List ℕ) (i t k : ℕ) (e : Entry) → i + 10 ≤ length out → t ≡ e .term → k ≡ content-code (e .content) →
@@ -103,8 +104,8 @@ pub row-put : (out o o₁ : List ℕ) (i t k : ℕ) (e : Entry) → i + 10 ≤ l
 row-put out o o₁ i t k e l et ek h h₁ =
     h₁
     ∙ (ap (λ x. laid x (i + 8) (two k)) h
-       ∙ (laid-more out i (i + 8) (eight t) (two k) refl (omega arith)
-          ∙ (ap (λ x. laid out i (eight x ++ two k)) et ∙ ap (λ x. laid out i (eight (e .term) ++ two x)) ek)))
+    ∙ (laid-more out i (i + 8) (eight t) (two k) refl (omega arith)
+    ∙ (ap (λ x. laid out i (eight x ++ two k)) et ∙ ap (λ x. laid out i (eight (e .term) ++ two x)) ek)))
 
 pub table-push : (es : List Entry) (e : Entry) → table-bytes (es ++ e ∷ []) ≡ table-bytes es ++ row-bytes e
 unfolding table-bytes
@@ -141,8 +142,8 @@ table-more m out o o₁ f i j l e e₁ =
     let n : i + length (table-bytes (log-entries m f j)) ≡ i + 10 * j = omega (arith, length-table (log-entries m f j), length-log-entries m f j) in
     e₁
     ∙ (ap (λ x. laid x (i + 10 * j) (row-bytes (log-entry m (f + j)))) e
-       ∙ (laid-more out i (i + 10 * j) (table-bytes (log-entries m f j)) (row-bytes (log-entry m (f + j))) n l
-          ∙ ap (laid out i) (sym (ap table-bytes (log-entries-more m f j) ∙ table-push (log-entries m f j) (log-entry m (f + j))))))
+    ∙ (laid-more out i (i + 10 * j) (table-bytes (log-entries m f j)) (row-bytes (log-entry m (f + j))) n l
+    ∙ ap (laid out i) (sym (ap table-bytes (log-entries-more m f j) ∙ table-push (log-entries m f j) (log-entry m (f + j))))))
 
 pub values-none : (m out : List ℕ) (f i : ℕ) → Put out i (values-bytes (log-entries m f 0)) i out
 unfolding log-entries values-bytes
@@ -152,20 +153,22 @@ pub values-more : (m out o o₁ : List ℕ) (f i j end end₁ : ℕ) → end ≤
     Put o end (content-bytes (log-content m (f + j))) end₁ o₁ → Put out i (values-bytes (log-entries m f (j + 1))) end₁ o₁
 values-more m out o o₁ f i j end end₁ l p p₁ =
     let more : values-bytes (log-entries m f (j + 1)) ≡ values-bytes (log-entries m f j) ++ content-bytes (log-content m (f + j)) =
-          ap values-bytes (log-entries-more m f j) ∙ values-push (log-entries m f j) (log-entry m (f + j)) in
-    record
-      { end-is = omega (arith, ap length more, length-append (values-bytes (log-entries m f j)) (content-bytes (log-content m (f + j))), p .end-is, p₁ .end-is)
-      ; is =
+    ap values-bytes (log-entries-more m f j) ∙ values-push (log-entries m f j) (log-entry m (f + j)) in
+    record {
+      end-is = omega (arith, ap length more, length-append (values-bytes (log-entries m f j)) (content-bytes (log-content m (f + j))), p .end-is, p₁ .end-is);
+      is =
           p₁ .is
           ∙ (ap (λ x. laid x end (content-bytes (log-content m (f + j)))) (p .is)
-             ∙ (laid-more out i end (values-bytes (log-entries m f j)) (content-bytes (log-content m (f + j))) (sym (p .end-is)) l ∙ ap (laid out i) (sym more))) }
+          ∙ (laid-more out i end (values-bytes (log-entries m f j)) (content-bytes (log-content m (f + j))) (sym (p .end-is)) l ∙ ap (laid out i) (sym more)));
+    }
 
 -- the whole block
 pub block-put : (out o o₁ : List ℕ) (es : List Entry) (n i end : ℕ) → length es ≡ n → i + 10 * n ≤ length out → o ≡ laid out i (table-bytes es) →
     Put o (i + 10 * n) (values-bytes es) end o₁ → Put out i (block-bytes es) end o₁
 block-put out o o₁ es n i end c l e p =
-    record
-      { end-is = omega (arith, length-append (table-bytes es) (values-bytes es), length-table es, p .end-is)
-      ; is =
+    record {
+      end-is = omega (arith, length-append (table-bytes es) (values-bytes es), length-table es, p .end-is);
+      is =
           p .is
-          ∙ (ap (λ x. laid x (i + 10 * n) (values-bytes es)) e ∙ laid-more out i (i + 10 * n) (table-bytes es) (values-bytes es) (omega (arith, length-table es)) l) }
+          ∙ (ap (λ x. laid x (i + 10 * n) (values-bytes es)) e ∙ laid-more out i (i + 10 * n) (table-bytes es) (values-bytes es) (omega (arith, length-table es)) l);
+    }

@@ -26,16 +26,16 @@ laid-more out i k xs ys e l =
     let front : List ℕ = take i out ++ xs in
     let n : length front ≡ k = length-append (take i out) xs ∙ (ap (λ j. j + length xs) (length-take-le i out (omega arith)) ∙ e) in
     let whole : take i out ++ (xs ++ drop (i + length xs) out) ≡ front ++ drop k out =
-          sym (append-assoc (take i out) xs (drop (i + length xs) out)) ∙ ap (λ j. front ++ drop j out) e in
+    sym (append-assoc (take i out) xs (drop (i + length xs) out)) ∙ ap (λ j. front ++ drop j out) e in
     let behind : drop (k + length ys) (front ++ drop k out) ≡ drop (i + length (xs ++ ys)) out =
-          sym (drop-drop (length ys) k (front ++ drop k out))
-          ∙ (ap (drop (length ys)) (drop-at front (drop k out) k n)
-             ∙ (drop-drop (length ys) k out ∙ ap (λ j. drop j out) (omega (arith, length-append xs ys)))) in
+    sym (drop-drop (length ys) k (front ++ drop k out))
+    ∙ (ap (drop (length ys)) (drop-at front (drop k out) k n)
+    ∙ (drop-drop (length ys) k out ∙ ap (λ j. drop j out) (omega (arith, length-append xs ys)))) in
     ap (λ x. take k x ++ (ys ++ drop (k + length ys) x)) whole
     ∙ (ap (λ t. t ++ (ys ++ drop (k + length ys) (front ++ drop k out))) (take-at front (drop k out) k n)
-       ∙ (ap (λ t. front ++ (ys ++ t)) behind
-          ∙ (append-assoc (take i out) xs (ys ++ drop (i + length (xs ++ ys)) out)
-             ∙ ap (λ t. take i out ++ t) (sym (append-assoc xs ys (drop (i + length (xs ++ ys)) out))))))
+    ∙ (ap (λ t. front ++ (ys ++ t)) behind
+    ∙ (append-assoc (take i out) xs (ys ++ drop (i + length (xs ++ ys)) out)
+    ∙ ap (λ t. take i out ++ t) (sym (append-assoc xs ys (drop (i + length (xs ++ ys)) out))))))
 
 pub length-laid : (out : List ℕ) (i : ℕ) (bs : List ℕ) → i + length bs ≤ length out → length (laid out i bs) ≡ length out
 unfolding laid
@@ -164,8 +164,8 @@ module _ (bs : List ℕ) (i : ℕ) (b : Bytes bs) where
       let d₆ = drop-next bs (i + 6) (i + 7) (omega arith) (omega arith) in
       let d₇ = drop-next bs (i + 7) (i + 8) (omega arith) (omega arith) in
       ap (λ t. t ++ drop (i + 8) bs)
-        (eight-of (getD bs i 0) (getD bs (i + 1) 0) (getD bs (i + 2) 0) (getD bs (i + 3) 0) (getD bs (i + 4) 0) (getD bs (i + 5) 0) (getD bs (i + 6) 0) (getD bs (i + 7) 0)
-         (b i) (b (i + 1)) (b (i + 2)) (b (i + 3)) (b (i + 4)) (b (i + 5)) (b (i + 6)) (b (i + 7)))
+      (eight-of (getD bs i 0) (getD bs (i + 1) 0) (getD bs (i + 2) 0) (getD bs (i + 3) 0) (getD bs (i + 4) 0) (getD bs (i + 5) 0) (getD bs (i + 6) 0) (getD bs (i + 7) 0)
+      (b i) (b (i + 1)) (b (i + 2)) (b (i + 3)) (b (i + 4)) (b (i + 5)) (b (i + 6)) (b (i + 7)))
       ∙ cc
 
   pub two-at : i + 2 ≤ length bs → two (pair-at bs i) ++ drop (i + 2) bs ≡ drop i bs

@@ -82,14 +82,15 @@ has-term-within l i t h = leb-true i (length l) (and-parts (leb i (length l)) (e
 pub conflict-within : (l : List Entry) (p : ℕ) (es : List Entry) (c : Index) → conflict l p es ≡ Some c → Within l p es (c .0)
 conflict-within l p [] c h = let z : _≡_ {A = ℕ} 0 1 = cc (conflict-none l p) in absurd (omega arith)
 conflict-within l p (e ∷ es) c h =
-    elim (cases-bool (has-term l (suc p) (e .term)))
-    [ inl y ↦
-        let w = conflict-within l (suc p) es c (sym (conflict-on l p e es y) ∙ h) in
-        let k = has-term-within l (suc p) (e .term) y in
-        record { behind = omega (arith, w .behind); upto = omega (arith, w .upto); near = λ b. w .near k }
-    | inr f ↦
-        let q : c .0 ≡ suc p = cc (conflict-here l p e es f) in
-        record { behind = omega arith; upto = omega arith; near = λ b. omega arith } ]
+    elim (cases-bool (has-term l (suc p) (e .term))) [
+      | inl y ↦
+          let w = conflict-within l (suc p) es c (sym (conflict-on l p e es y) ∙ h) in
+          let k = has-term-within l (suc p) (e .term) y in
+          record { behind = omega (arith, w .behind); upto = omega (arith, w .upto); near = λ b. w .near k }
+      | inr f ↦
+          let q : c .0 ≡ suc p = cc (conflict-here l p e es f) in
+          record { behind = omega arith; upto = omega arith; near = λ b. omega arith }
+    ]
 
 -- THE LARGEST INDEX WITH A TERM THAT IS LOW ENOUGH
 module _ (l : List Entry) (t : ℕ) where

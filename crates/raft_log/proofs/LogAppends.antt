@@ -31,8 +31,8 @@ module _ (m : List ℕ) (v : List ℕ) (d : Tidy-entries m) (short : length v �
   put-log =
       log-is put (last-index m) (put-last m (values m) v)
       ∙ (rows-entries m put (λ i a b. value-put-before m (values m) v i (omega arith)) (last-index m) d (omega arith) (omega (arith, put-last m (values m) v))
-          (λ k l. value-put-other m (values m) v k short (omega arith))
-         ∙ sym (log-is m (last-index m) refl))
+      (λ k l. value-put-other m (values m) v k short (omega arith))
+      ∙ sym (log-is m (last-index m) refl))
 
   pub put-tidy : Tidy-entries put
   put-tidy =
@@ -71,21 +71,22 @@ module _ (m : List ℕ) (t : ℕ) (v : List ℕ) (d : Tidy-entries m) (fits : va
   value-appended-log bs =
       ap log-of appended-is
       ∙ (pushed-log m₁ (last-index m) t (suc (values m)) m₁-long m₁-last (omega (arith, fits-entry m t v (d .long) fits)) (omega (arith, fits-value m t v (d .long) fits))
-         ∙ cc (front, brings bs))
+      ∙ cc (front, brings bs))
 
   pub value-appended-tidy-entries : Tidy-entries (value-appended m t v)
   value-appended-tidy-entries =
       subst (λ (x : List ℕ). Tidy-entries x) (sym appended-is)
       (pushed-tidy m₁ (last-index m) t (suc (values m)) m₁-long m₁-last (omega (arith, fits-entry m t v (d .long) fits)) (omega (arith, fits-value m t v (d .long) fits))
-       (record { least = omega (arith, m₁-values); most = omega (arith, m₁-values) }) (put-tidy m v d (fits-short m t v (d .long) fits)))
+      (record { least = omega (arith, m₁-values); most = omega (arith, m₁-values) }) (put-tidy m v d (fits-short m t v (d .long) fits)))
 
 pub value-appended-tidy : (m : List ℕ) (t : ℕ) (v : List ℕ) → Tidy m → value-fits m (length v) ≡ true → Tidy (value-appended m t v)
 value-appended-tidy m t v d fits =
     let long = d .entries .long in
-    record
-    { entries = value-appended-tidy-entries m t v (d .entries) fits
-    ; commit = omega (arith, appended-header m t v long fits 65 (omega arith) (omega arith), appended-last m t v long fits, d .commit)
-    ; applied = omega (arith, appended-header m t v long fits 66 (omega arith) (omega arith), d .applied) }
+    record {
+      entries = value-appended-tidy-entries m t v (d .entries) fits;
+      commit = omega (arith, appended-header m t v long fits 65 (omega arith) (omega arith), appended-last m t v long fits, d .commit);
+      applied = omega (arith, appended-header m t v long fits 66 (omega arith) (omega arith), d .applied);
+    }
 
 -- AN EMPTY ENTRY is pushed behind the first k, when as many values stand up to those
 module _ (m : List ℕ) (k t : ℕ) (d : Tidy-entries m) (within : k ≤ last-index m) (room : suc k ≤ 8193) (same : number-at m k ≡ values m) where
@@ -126,11 +127,12 @@ renew-place-log m = go (last-index m) refl
         omega (arith, renew-none (log-of m) (length-log m ∙ e), cond-false (last-is-empty m) (last-index m) (last-index m + 1) f)
     go (suc n) e =
         let c : is-none (getD (log-of m) n no-entry .content) ≡ last-is-empty m =
-              ap (λ (x : Entry). is-none (x .content)) (log-at m n no-entry (omega arith)) ∙ (is-none-between m (number-at m n) (number-at m (suc n)) ∙ sym (last-empty m n e)) in
+        ap (λ (x : Entry). is-none (x .content)) (log-at m n no-entry (omega arith)) ∙ (is-none-between m (number-at m n) (number-at m (suc n)) ∙ sym (last-empty m n e)) in
         let p : renew-place (log-of m) ≡ cond (last-is-empty m) n (suc n) = renew-some (log-of m) n (length-log m ∙ e) ∙ ap (λ x. cond x n (suc n)) c in
-        elim (cases-bool (last-is-empty m))
-        [ inl y ↦ omega (arith, p, cond-true (last-is-empty m) n (suc n) y, cond-true (last-is-empty m) (last-index m) (last-index m + 1) y)
-        | inr f ↦ omega (arith, p, cond-false (last-is-empty m) n (suc n) f, cond-false (last-is-empty m) (last-index m) (last-index m + 1) f) ]
+        elim (cases-bool (last-is-empty m)) [
+          | inl y ↦ omega (arith, p, cond-true (last-is-empty m) n (suc n) y, cond-true (last-is-empty m) (last-index m) (last-index m + 1) y)
+          | inr f ↦ omega (arith, p, cond-false (last-is-empty m) n (suc n) f, cond-false (last-is-empty m) (last-index m) (last-index m + 1) f)
+        ]
 
 -- A LEADER'S EMPTY ENTRY: one that is last is renewed, or else there is one more
 module _ (m : List ℕ) (t : ℕ) (d : Tidy-entries m) (fits : empty-fits m ≡ true) where
@@ -139,19 +141,21 @@ module _ (m : List ℕ) (t : ℕ) (d : Tidy-entries m) (fits : empty-fits m ≡ 
 
   place-within : k ≤ last-index m
   place-within =
-      elim (cases-bool (last-is-empty m))
-      [ inl y ↦ omega (arith, renew-place-log m, cond-true (last-is-empty m) (last-index m) (last-index m + 1) y)
-      | inr f ↦ omega (arith, renew-place-log m, cond-false (last-is-empty m) (last-index m) (last-index m + 1) f) ]
+      elim (cases-bool (last-is-empty m)) [
+        | inl y ↦ omega (arith, renew-place-log m, cond-true (last-is-empty m) (last-index m) (last-index m + 1) y)
+        | inr f ↦ omega (arith, renew-place-log m, cond-false (last-is-empty m) (last-index m) (last-index m + 1) f)
+      ]
 
   place-number : number-at m k ≡ values m
   place-number =
-      elim (cases-bool (last-is-empty m))
-      [ inl y ↦
-          let p : k ≡ last-index m - 1 = omega (arith, renew-place-log m, cond-true (last-is-empty m) (last-index m) (last-index m + 1) y) in
-          ap (number-at m) p ∙ sym (eqb-true (values m) (number-at m (last-index m - 1)) (and-parts (leb 1 (last-index m)) (eqb (values m) (number-at m (last-index m - 1))) y .1))
-      | inr f ↦
-          let p : k ≡ last-index m = omega (arith, renew-place-log m, cond-false (last-is-empty m) (last-index m) (last-index m + 1) f) in
-          ap (number-at m) p ]
+      elim (cases-bool (last-is-empty m)) [
+        | inl y ↦
+            let p : k ≡ last-index m - 1 = omega (arith, renew-place-log m, cond-true (last-is-empty m) (last-index m) (last-index m + 1) y) in
+            ap (number-at m) p ∙ sym (eqb-true (values m) (number-at m (last-index m - 1)) (and-parts (leb 1 (last-index m)) (eqb (values m) (number-at m (last-index m - 1))) y .1))
+        | inr f ↦
+            let p : k ≡ last-index m = omega (arith, renew-place-log m, cond-false (last-is-empty m) (last-index m) (last-index m + 1) f) in
+            ap (number-at m) p
+      ]
 
   empty-is : empty-appended m t ≡ entry-pushed m (suc k) t (values m)
   unfolding empty-appended
@@ -170,13 +174,15 @@ module _ (m : List ℕ) (t : ℕ) (d : Tidy-entries m) (fits : empty-fits m ≡ 
 pub empty-appended-tidy : (m : List ℕ) (t : ℕ) → Tidy m → empty-fits m ≡ true → Tidy (empty-appended m t)
 empty-appended-tidy m t d fits =
     let long = d .entries .long in
-    record
-    { entries = empty-appended-tidy-entries m t (d .entries) fits
-    ; commit = omega (arith, empty-header m t long fits 65 (omega arith) (omega arith), empty-last m t long fits, place-within m t (d .entries) fits, renew-place-log m, d .commit, room m)
-    ; applied = omega (arith, empty-header m t long fits 66 (omega arith) (omega arith), d .applied) }
+    record {
+      entries = empty-appended-tidy-entries m t (d .entries) fits;
+      commit = omega (arith, empty-header m t long fits 65 (omega arith) (omega arith), empty-last m t long fits, place-within m t (d .entries) fits, renew-place-log m, d .commit, room m);
+      applied = omega (arith, empty-header m t long fits 66 (omega arith) (omega arith), d .applied);
+    }
   where
     room : (m : List ℕ) → last-index m ≤ empty-place m
     room m =
-        elim (cases-bool (last-is-empty m))
-        [ inl y ↦ omega (arith, cond-true (last-is-empty m) (last-index m) (last-index m + 1) y)
-        | inr f ↦ omega (arith, cond-false (last-is-empty m) (last-index m) (last-index m + 1) f) ]
+        elim (cases-bool (last-is-empty m)) [
+          | inl y ↦ omega (arith, cond-true (last-is-empty m) (last-index m) (last-index m + 1) y)
+          | inr f ↦ omega (arith, cond-false (last-is-empty m) (last-index m) (last-index m + 1) f)
+        ]

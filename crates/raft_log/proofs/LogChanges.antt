@@ -30,12 +30,13 @@ entry-alike m m₁ j n e a b r l held = cc (e, a, b, same)
   where
     same : content-between m₁ (number-at m j) (number-at m (suc j)) ≡ content-between m (number-at m j) (number-at m (suc j))
     same =
-        elim (cases-eq (number-at m (suc j)) (number-at m j))
-        [ inl q ↦ content-none m₁ (number-at m j) (number-at m (suc j)) q ∙ sym (content-none m (number-at m j) (number-at m (suc j)) q)
-        | inr ne ↦
-            let up : number-at m j < number-at m (suc j) = omega (arith, r .least) in
-            content-some m₁ (number-at m j) (number-at m (suc j)) up
-            ∙ (ap some (held (number-at m (suc j) - 1) (omega arith)) ∙ sym (content-some m (number-at m j) (number-at m (suc j)) up)) ]
+        elim (cases-eq (number-at m (suc j)) (number-at m j)) [
+          | inl q ↦ content-none m₁ (number-at m j) (number-at m (suc j)) q ∙ sym (content-none m (number-at m j) (number-at m (suc j)) q)
+          | inr ne ↦
+              let up : number-at m j < number-at m (suc j) = omega (arith, r .least) in
+              content-some m₁ (number-at m j) (number-at m (suc j)) up
+              ∙ (ap some (held (number-at m (suc j) - 1) (omega arith)) ∙ sym (content-some m (number-at m j) (number-at m (suc j)) up))
+        ]
 
 -- THE ROWS OF THE ENTRIES ARE THE SAME, though perhaps not how many count
 module _ (m m₁ : List ℕ) (rows : (i : ℕ) → 72 ≤ i → i < 16458 → getD m₁ i 0 ≡ getD m i 0) where
@@ -52,14 +53,16 @@ module _ (m m₁ : List ℕ) (rows : (i : ℕ) → 72 ≤ i → i < 16458 → ge
 
   pub rows-tidy : length m₁ ≡ length m → getD m₁ 64 0 ≤ 8193 → last-index m₁ ≤ last-index m → Tidy-entries m → Tidy-entries m₁
   rows-tidy e w l t =
-      record
-      { long = e ∙ t .long; last = w
-      ; counts = λ i a b. omega (arith, rows (entry-row i + 1) (omega arith) (omega (arith, last-most m)), t .counts i a (omega arith))
-      ; rises = λ j b.
-          let p = rows-numbers j (omega arith) (omega arith) in
-          let q = rows-numbers (suc j) (omega arith) (omega arith) in
-          let r = t .rises j (omega arith) in
-          record { least = omega arith; most = omega arith } }
+      record {
+        long = e ∙ t .long;
+        last = w;
+        counts = λ i a b. omega (arith, rows (entry-row i + 1) (omega arith) (omega (arith, last-most m)), t .counts i a (omega arith));
+        rises = λ j b.
+            let p = rows-numbers j (omega arith) (omega arith) in
+            let q = rows-numbers (suc j) (omega arith) (omega arith) in
+            let r = t .rises j (omega arith) in
+            record { least = omega arith; most = omega arith };
+      }
 
   -- and so are the values that the first n of them hold
   pub rows-entries :
@@ -67,8 +70,8 @@ module _ (m m₁ : List ℕ) (rows : (i : ℕ) → 72 ≤ i → i < 16458 → ge
   rows-entries n t a b held =
       entries-alike m m₁ n
       (λ j l.
-          entry-alike m m₁ j (number-at m n) (rows-terms (suc j) (omega arith) (omega arith)) (rows-numbers j (omega arith) (omega arith))
-          (rows-numbers (suc j) (omega arith) (omega arith)) (t .rises j (omega arith)) (number-up m t (suc j) n l a) held)
+      entry-alike m m₁ j (number-at m n) (rows-terms (suc j) (omega arith) (omega arith)) (rows-numbers j (omega arith) (omega arith))
+      (rows-numbers (suc j) (omega arith) (omega arith)) (t .rises j (omega arith)) (number-up m t (suc j) n l a) held)
 
 pub log-is : (m : List ℕ) (n : ℕ) → last-index m ≡ n → log-of m ≡ entries-of m n
 unfolding log-of
@@ -83,7 +86,7 @@ pub same-log : (m m₁ : List ℕ) → Same-entries m m₁ → log-of m₁ ≡ l
 same-log m m₁ s =
     log-is m₁ (last-index m) (s .last)
     ∙ (entries-alike m m₁ (last-index m) (λ j l. cc (s .terms (suc j), s .numbers j, s .numbers (suc j), s .held (number-at m (suc j) - 1)))
-       ∙ sym (log-is m (last-index m) refl))
+    ∙ sym (log-is m (last-index m) refl))
 
 pub same-tidy :
     (m m₁ : List ℕ) → length m₁ ≡ length m → getD m₁ 64 0 ≡ getD m 64 0 → ((i : ℕ) → 72 ≤ i → getD m₁ i 0 ≡ getD m i 0) → Tidy-entries m → Tidy-entries m₁
@@ -96,10 +99,11 @@ module _ (m m₁ : List ℕ) (l : length m₁ ≡ length m) (behind : (i : ℕ) 
 
   pub header-tidy : Tidy m → Tidy m₁
   header-tidy t =
-      record
-      { entries = same-tidy m m₁ l (behind 64 (omega arith)) (λ i a. behind i (omega arith)) (t .entries)
-      ; commit = omega (arith, behind 65 (omega arith), last-word m m₁ (behind 64 (omega arith)), t .commit)
-      ; applied = omega (arith, behind 66 (omega arith), t .applied) }
+      record {
+        entries = same-tidy m m₁ l (behind 64 (omega arith)) (λ i a. behind i (omega arith)) (t .entries);
+        commit = omega (arith, behind 65 (omega arith), last-word m m₁ (behind 64 (omega arith)), t .commit);
+        applied = omega (arith, behind 66 (omega arith), t .applied);
+      }
 
 -- THE COMMIT RISES
 module _ (m : List ℕ) (i : ℕ) where
@@ -114,10 +118,11 @@ module _ (m : List ℕ) (i : ℕ) where
 
   pub commit-raised-tidy : Tidy m → Tidy (commit-raised m i)
   commit-raised-tidy t =
-      record
-      { entries = same-tidy m (commit-raised m i) (length-commit-raised m i) (commit-raised-other m i 64 (omega arith)) (λ j a. commit-raised-other m i j (omega arith)) (t .entries)
-      ; commit = omega (arith, commit-raised-entries m i .last, commit-raised-word (t .entries .long) (t .commit))
-      ; applied = omega (arith, commit-raised-other m i 66 (omega arith), t .applied) }
+      record {
+        entries = same-tidy m (commit-raised m i) (length-commit-raised m i) (commit-raised-other m i 64 (omega arith)) (λ j a. commit-raised-other m i j (omega arith)) (t .entries);
+        commit = omega (arith, commit-raised-entries m i .last, commit-raised-word (t .entries .long) (t .commit));
+        applied = omega (arith, commit-raised-other m i 66 (omega arith), t .applied);
+      }
 
 -- A DECISION WAS APPLIED
 module _ (m : List ℕ) (k : ℕ) where
@@ -130,10 +135,11 @@ module _ (m : List ℕ) (k : ℕ) where
 
   pub applied-set-tidy : k ≤ 4096 → Tidy m → Tidy (applied-set m k)
   applied-set-tidy b t =
-      record
-      { entries = same-tidy m (applied-set m k) (length-applied-set m k) (applied-set-other m k 64 (omega arith)) (λ j a. applied-set-other m k j (omega arith)) (t .entries)
-      ; commit = omega (arith, applied-set-other m k 65 (omega arith), applied-set-entries m k .last, t .commit)
-      ; applied = omega (arith, applied-set-word (t .entries .long)) }
+      record {
+        entries = same-tidy m (applied-set m k) (length-applied-set m k) (applied-set-other m k 64 (omega arith)) (λ j a. applied-set-other m k j (omega arith)) (t .entries);
+        commit = omega (arith, applied-set-other m k 65 (omega arith), applied-set-entries m k .last, t .commit);
+        applied = omega (arith, applied-set-word (t .entries .long));
+      }
 
 -- THE LOG IS CUT behind its first k entries
 module _ (m : List ℕ) (k : ℕ) (long : length m ≡ memory-words) (within : k ≤ last-index m) where
@@ -167,7 +173,7 @@ module _ (m : List ℕ) (k : ℕ) (long : length m ≡ memory-words) (within : k
   truncated-log t =
       log-is (truncated m k) k truncated-last
       ∙ (rows-entries m (truncated m k) (λ i a b. truncated-other i (omega arith)) k t within (omega (arith, truncated-last)) (λ j l. truncated-held j)
-         ∙ sym (take-log m k within))
+      ∙ sym (take-log m k within))
 
 -- AN ENTRY IS PUSHED behind the first k
 module _ (m : List ℕ) (k t n : ℕ) (long : length m ≡ memory-words) (within : k ≤ last-index m) (room : suc k ≤ 8193) (few : n ≤ 4096) where
@@ -186,14 +192,22 @@ module _ (m : List ℕ) (k t n : ℕ) (long : length m ≡ memory-words) (within
       front =
           entries-alike m pushed k
           (λ j l.
-              cc (pushed-terms m (suc k) t n long one room (suc j) (omega arith) (omega arith), pushed-numbers m (suc k) t n long one room j (omega arith) (omega arith),
-                  pushed-numbers m (suc k) t n long one room (suc j) (omega arith) (omega arith), pushed-held m (suc k) t n long one room (number-at m (suc j) - 1)))
+          cc (
+            pushed-terms m (suc k) t n long one room (suc j) (omega arith) (omega arith),
+            pushed-numbers m (suc k) t n long one room j (omega arith) (omega arith),
+            pushed-numbers m (suc k) t n long one room (suc j) (omega arith) (omega arith),
+            pushed-held m (suc k) t n long one room (number-at m (suc j) - 1),
+          ))
           ∙ sym (take-log m k within)
 
       last : entry-of pushed k ≡ entry t (content-between m (number-at m k) n)
       last =
-          cc (pushed-term m (suc k) t n long one room, pushed-numbers m (suc k) t n long one room k (omega arith) within, pushed-number m (suc k) t n long one room few,
-              pushed-held m (suc k) t n long one room (n - 1))
+          cc (
+            pushed-term m (suc k) t n long one room,
+            pushed-numbers m (suc k) t n long one room k (omega arith) within,
+            pushed-number m (suc k) t n long one room few,
+            pushed-held m (suc k) t n long one room (n - 1),
+          )
 
   pushed-word : getD pushed 64 0 ≡ suc k
   pushed-word = getD-set-same (entry-put m (suc k) t n) 64 (suc k) 0 (simp length-set (omega arith))
@@ -205,27 +219,30 @@ module _ (m : List ℕ) (k t n : ℕ) (long : length m ≡ memory-words) (within
 
   pub pushed-tidy : Rises (number-at m k) n → Tidy-entries m → Tidy-entries pushed
   pushed-tidy r d =
-      record
-      { long = length-pushed m (suc k) t n long one room ∙ long
-      ; last = omega (arith, pushed-word)
-      ; counts = λ i a b. counts i a (omega (arith, pushed-last m (suc k) t n long one room))
-      ; rises = λ j b. rises j (omega (arith, pushed-last m (suc k) t n long one room)) }
+      record {
+        long = length-pushed m (suc k) t n long one room ∙ long;
+        last = omega (arith, pushed-word);
+        counts = λ i a b. counts i a (omega (arith, pushed-last m (suc k) t n long one room));
+        rises = λ j b. rises j (omega (arith, pushed-last m (suc k) t n long one room));
+      }
     where
       counts : (i : ℕ) → 1 ≤ i → i ≤ suc k → getD pushed (entry-row i + 1) 0 ≤ 4096
       counts i a b =
-          elim (cases-eq i (suc k))
-          [ inl e ↦ rw e (omega (arith, pushed-count))
-          | inr ne ↦ omega (arith, pushed-other m (suc k) t n long one room (entry-row i + 1) (omega arith) (omega arith) (omega arith), d .counts i a (omega arith)) ]
+          elim (cases-eq i (suc k)) [
+            | inl e ↦ rw e (omega (arith, pushed-count))
+            | inr ne ↦ omega (arith, pushed-other m (suc k) t n long one room (entry-row i + 1) (omega arith) (omega arith) (omega arith), d .counts i a (omega arith))
+          ]
 
       rises : (j : ℕ) → j < suc k → Rises (number-at pushed j) (number-at pushed (suc j))
       rises j b =
-          elim (cases-eq j k)
-          [ inl e ↦
-              let p = pushed-numbers m (suc k) t n long one room k (omega arith) within in
-              let q = pushed-number m (suc k) t n long one room few in
-              rw e (record { least = omega (arith, r .least); most = omega (arith, r .most) })
-          | inr ne ↦
-              let p = pushed-numbers m (suc k) t n long one room j (omega arith) (omega arith) in
-              let q = pushed-numbers m (suc k) t n long one room (suc j) (omega arith) (omega arith) in
-              let s = d .rises j (omega arith) in
-              record { least = omega arith; most = omega arith } ]
+          elim (cases-eq j k) [
+            | inl e ↦
+                let p = pushed-numbers m (suc k) t n long one room k (omega arith) within in
+                let q = pushed-number m (suc k) t n long one room few in
+                rw e (record { least = omega (arith, r .least); most = omega (arith, r .most) })
+            | inr ne ↦
+                let p = pushed-numbers m (suc k) t n long one room j (omega arith) (omega arith) in
+                let q = pushed-numbers m (suc k) t n long one room (suc j) (omega arith) (omega arith) in
+                let s = d .rises j (omega arith) in
+                record { least = omega arith; most = omega arith }
+          ]

@@ -104,17 +104,19 @@ module _ (m : List ℕ) (i : ℕ) where
   pub commit-raised-up : length m ≡ memory-words → commit-index m ≤ i → i ≤ last-index m → commit-index (commit-raised m i) ≡ i
   unfolding commit-raised commit-index
   commit-raised-up l a b =
-      elim (cases-bool (commit-rises m i))
-      [ inl e ↦
-          ap (λ x. at-most (getD x 65 0) (last-index x)) (cond-true (commit-rises m i) (set m 65 i) m e)
-          ∙ (ap (λ x. at-most x (last-index (set m 65 i))) (getD-set-same m 65 i 0 (omega arith))
-             ∙ (ap (at-most i) (same-entries m (set m 65 i) (getD-set-other m 65 64 i 0 (omega arith)) (λ j l₁. getD-set-other m 65 j i 0 (omega arith)) .last) ∙ at-most-same i (last-index m) b))
-      | inr e ↦
-          ap (λ x. at-most (getD x 65 0) (last-index x)) (cond-false (commit-rises m i) (set m 65 i) m e)
-          ∙ same e ]
+      elim (cases-bool (commit-rises m i)) [
+        | inl e ↦
+            ap (λ x. at-most (getD x 65 0) (last-index x)) (cond-true (commit-rises m i) (set m 65 i) m e)
+            ∙ (ap (λ x. at-most x (last-index (set m 65 i))) (getD-set-same m 65 i 0 (omega arith))
+            ∙ (ap (at-most i) (same-entries m (set m 65 i) (getD-set-other m 65 64 i 0 (omega arith)) (λ j l₁. getD-set-other m 65 j i 0 (omega arith)) .last) ∙ at-most-same i (last-index m) b))
+        | inr e ↦
+            ap (λ x. at-most (getD x 65 0) (last-index x)) (cond-false (commit-rises m i) (set m 65 i) m e)
+            ∙ same e
+      ]
     where
       same : commit-rises m i ≡ false → commit-index m ≡ i
       same e =
-          elim (cases-lt (commit-index m) i)
-          [ inl l₁ ↦ absurd (true≢false (sym (and-from (ltb (commit-index m) i) (leb i (last-index m)) (lt-ltb (commit-index m) i l₁) (le-leb i (last-index m) b)) ∙ e))
-          | inr l₁ ↦ omega arith ]
+          elim (cases-lt (commit-index m) i) [
+            | inl l₁ ↦ absurd (true≢false (sym (and-from (ltb (commit-index m) i) (leb i (last-index m)) (lt-ltb (commit-index m) i l₁) (le-leb i (last-index m) b)) ∙ e))
+            | inr l₁ ↦ omega arith
+          ]

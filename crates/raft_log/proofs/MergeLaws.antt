@@ -72,43 +72,47 @@ pub conflict-has : (l : List Entry) (p : ℕ) (es : List Entry) → conflict l p
 unfolding has-entries
 conflict-has l p [] h = refl
 conflict-has l p (e ∷ es) h =
-    elim (cases-bool (has-term l (suc p) (e .term)))
-    [ inl y ↦ has-on l p e es y ∙ conflict-has l (suc p) es (sym (conflict-on l p e es y) ∙ h)
-    | inr f ↦ let z : _≡_ {A = ℕ} 0 1 = cc (conflict-here l p e es f) in absurd (omega arith) ]
+    elim (cases-bool (has-term l (suc p) (e .term))) [
+      | inl y ↦ has-on l p e es y ∙ conflict-has l (suc p) es (sym (conflict-on l p e es y) ∙ h)
+      | inr f ↦ let z : _≡_ {A = ℕ} 0 1 = cc (conflict-here l p e es f) in absurd (omega arith)
+    ]
 
 pub conflict-lacks : (l : List Entry) (p : ℕ) (es : List Entry) (c : Index) → conflict l p es ≡ Some c → has-entries l p es ≡ false
 conflict-lacks l p [] c h = let z : _≡_ {A = ℕ} 0 1 = cc (conflict-none l p) in absurd (omega arith)
 conflict-lacks l p (e ∷ es) c h =
-    elim (cases-bool (has-term l (suc p) (e .term)))
-    [ inl y ↦ has-on l p e es y ∙ conflict-lacks l (suc p) es c (sym (conflict-on l p e es y) ∙ h)
-    | inr f ↦ has-not l p e es f ]
+    elim (cases-bool (has-term l (suc p) (e .term))) [
+      | inl y ↦ has-on l p e es y ∙ conflict-lacks l (suc p) es c (sym (conflict-on l p e es y) ∙ h)
+      | inr f ↦ has-not l p e es f
+    ]
 
 pub conflict-none-long : (l : List Entry) (p : ℕ) (es : List Entry) → p ≤ length l → conflict l p es ≡ None → p + length es ≤ length l
 conflict-none-long l p [] b h = omega arith
 conflict-none-long l p (e ∷ es) b h =
-    elim (cases-bool (has-term l (suc p) (e .term)))
-    [ inl y ↦ omega (arith, conflict-none-long l (suc p) es (has-term-within l (suc p) (e .term) y) (sym (conflict-on l p e es y) ∙ h))
-    | inr f ↦ let z : _≡_ {A = ℕ} 0 1 = cc (conflict-here l p e es f) in absurd (omega arith) ]
+    elim (cases-bool (has-term l (suc p) (e .term))) [
+      | inl y ↦ omega (arith, conflict-none-long l (suc p) es (has-term-within l (suc p) (e .term) y) (sym (conflict-on l p e es y) ∙ h))
+      | inr f ↦ let z : _≡_ {A = ℕ} 0 1 = cc (conflict-here l p e es f) in absurd (omega arith)
+    ]
 
 spliced-same :
     (l : List Entry) (p : ℕ) (es : List Entry) (c : Index) → Agreeing l p es → conflict l p es ≡ Some c → take (c .0 - 1) l ++ drop (c .0 - 1 - p) es ≡ take p l ++ es
 spliced-same l p [] c a h = let z : _≡_ {A = ℕ} 0 1 = cc (conflict-none l p) in absurd (omega arith)
 spliced-same l p (e ∷ es) c a h =
-    elim (cases-bool (has-term l (suc p) (e .term)))
-    [ inl y ↦
-        let on : conflict l (suc p) es ≡ Some c = sym (conflict-on l p e es y) ∙ h in
-        let w = conflict-within l (suc p) es c on in
-        let q : c .0 - 1 - p ≡ suc (c .0 - 1 - suc p) = omega (arith, w .behind) in
-        let long : suc p ≤ length l = has-term-within l (suc p) (e .term) y in
-        let more : take (suc p) l ≡ take p l ++ e ∷ [] =
-              ap (λ k. take k l) (sym (add-one p)) ∙ (take-more l p no-entry long ∙ ap (λ x. take p l ++ x ∷ []) (agreeing-first l p e es a y)) in
-        ap (λ k. take (c .0 - 1) l ++ drop k (e ∷ es)) q
-        ∙ (spliced-same l (suc p) es c (agreeing-rest l p e es a) on ∙ (ap (λ x. x ++ es) more ∙ append-assoc (take p l) (e ∷ []) es))
-    | inr f ↦
-        let q : c .0 ≡ suc p = cc (conflict-here l p e es f) in
-        let k : c .0 - 1 ≡ p = omega arith in
-        let d : c .0 - 1 - p ≡ 0 = omega arith in
-        ap (λ x. take x l ++ drop (c .0 - 1 - p) (e ∷ es)) k ∙ ap (λ x. take p l ++ drop x (e ∷ es)) d ]
+    elim (cases-bool (has-term l (suc p) (e .term))) [
+      | inl y ↦
+          let on : conflict l (suc p) es ≡ Some c = sym (conflict-on l p e es y) ∙ h in
+          let w = conflict-within l (suc p) es c on in
+          let q : c .0 - 1 - p ≡ suc (c .0 - 1 - suc p) = omega (arith, w .behind) in
+          let long : suc p ≤ length l = has-term-within l (suc p) (e .term) y in
+          let more : take (suc p) l ≡ take p l ++ e ∷ [] =
+          ap (λ k. take k l) (sym (add-one p)) ∙ (take-more l p no-entry long ∙ ap (λ x. take p l ++ x ∷ []) (agreeing-first l p e es a y)) in
+          ap (λ k. take (c .0 - 1) l ++ drop k (e ∷ es)) q
+          ∙ (spliced-same l (suc p) es c (agreeing-rest l p e es a) on ∙ (ap (λ x. x ++ es) more ∙ append-assoc (take p l) (e ∷ []) es))
+      | inr f ↦
+          let q : c .0 ≡ suc p = cc (conflict-here l p e es f) in
+          let k : c .0 - 1 ≡ p = omega arith in
+          let d : c .0 - 1 - p ≡ 0 = omega arith in
+          ap (λ x. take x l ++ drop (c .0 - 1 - p) (e ∷ es)) k ∙ ap (λ x. take p l ++ drop x (e ∷ es)) d
+    ]
 
 pub spliced-merge : (l : List Entry) (p : ℕ) (es : List Entry) → Agreeing l p es → spliced l p es (conflict l p es) ≡ merge l p es
 unfolding merge

@@ -84,16 +84,18 @@ pub took :
 took m t none vs long s a b =
     let one : 1 ≤ last-index m + 1 = omega arith in
     let room : last-index m + 1 ≤ 8193 = omega arith in
-    record
-    { long = length-pushed m (last-index m + 1) t (values m) long one room
-    ; last = omega (arith, pushed-last m (last-index m + 1) t (values m) long one room)
-    ; held = λ vs. omega (arith, pushed-values m (last-index m + 1) t (values m) long one room (number-most m (last-index m))) }
+    record {
+      long = length-pushed m (last-index m + 1) t (values m) long one room;
+      last = omega (arith, pushed-last m (last-index m + 1) t (values m) long one room);
+      held = λ vs. omega (arith, pushed-values m (last-index m + 1) t (values m) long one room (number-most m (last-index m)));
+    }
 took m t (some v) vs long s a b =
     let f = value-room m v s a (omega arith) in
-    record
-    { long = length-appended m t v long f
-    ; last = omega (arith, appended-last m t v long f)
-    ; held = λ vs. omega (arith, appended-values m t v long f) }
+    record {
+      long = length-appended m t v long f;
+      last = omega (arith, appended-last m t v long f);
+      held = λ vs. omega (arith, appended-values m t v long f);
+    }
 
 -- THE BLOCK'S ENTRY i
 module _ (bs : List ℕ) (n i : ℕ) (ok : block-fits bs n ≡ true) (less : i < n) where
@@ -136,7 +138,7 @@ module _ (m bs : List ℕ) (n i : ℕ) (less : i < n) (room : entries-fit m (dro
   block-slot ne =
       let e = content-some (row-code bs i) (take (row-length bs i) (drop (value-offset bs n i) bs)) ne in
       let h : values m + suc (length (decisions (drop (i + 1) (block-entries bs n)))) ≤ 4096 =
-            subst (λ (o : Option (List ℕ)). values m + length (with-content o (decisions (drop (i + 1) (block-entries bs n)))) ≤ 4096) e block-values in
+      subst (λ (o : Option (List ℕ)). values m + length (with-content o (decisions (drop (i + 1) (block-entries bs n)))) ≤ 4096) e block-values in
       omega arith
 
   pub block-took : block-fits bs n ≡ true → length m ≡ memory-words → Took m (entry-taken m (block-entry bs n i)) (block-entry bs n i .content)

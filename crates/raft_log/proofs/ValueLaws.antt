@@ -28,8 +28,8 @@ bytes-alike : (m m₁ : List ℕ) (base n : ℕ) → n ≤ 256 → Alike m m₁ 
 bytes-alike m m₁ base n s h =
     ext-getD 0 (bytes-at m₁ base n) (bytes-at m base n) (length-map-counting (λ i. byte-at m₁ base i) 0 n ∙ sym (length-map-counting (λ i. byte-at m base i) 0 n))
     (λ i l₁. let l : i < n = omega (arith, length-map-counting (λ i. byte-at m₁ base i) 0 n) in
-        getD-map-counting (λ i. byte-at m₁ base i) 0 n i i 0 l (omega arith)
-        ∙ (ap (λ w. byte-in w (i % 8)) (h (base + i / 8) (omega arith) (omega arith)) ∙ sym (getD-map-counting (λ i. byte-at m base i) 0 n i i 0 l (omega arith))))
+    getD-map-counting (λ i. byte-at m₁ base i) 0 n i i 0 l (omega arith)
+    ∙ (ap (λ w. byte-in w (i % 8)) (h (base + i / 8) (omega arith) (omega arith)) ∙ sym (getD-map-counting (λ i. byte-at m base i) 0 n i i 0 l (omega arith))))
 
 pub value-alike : (m m₁ : List ℕ) (k : ℕ) → Alike m m₁ (value-row k) (value-row k + 33) → value-at m₁ k ≡ value-at m k
 unfolding value-at
@@ -53,9 +53,10 @@ words-put-same : (m : List ℕ) (base : ℕ) (v : List ℕ) (n j : ℕ) → j < 
 unfolding words-put
 words-put-same m base v zero j l r = absurd (omega arith)
 words-put-same m base v (suc n) j l r =
-    elim (cases-eq j n)
-    [ inl e ↦ rw e (getD-set-same (words-put m base v n) (base + n) (word-of v n) 0 (omega (arith, length-words-put m base v n)))
-    | inr ne ↦ getD-set-other (words-put m base v n) (base + n) (base + j) (word-of v n) 0 (omega arith) ∙ words-put-same m base v n j (omega arith) (omega arith) ]
+    elim (cases-eq j n) [
+      | inl e ↦ rw e (getD-set-same (words-put m base v n) (base + n) (word-of v n) 0 (omega (arith, length-words-put m base v n)))
+      | inr ne ↦ getD-set-other (words-put m base v n) (base + n) (base + j) (word-of v n) 0 (omega arith) ∙ words-put-same m base v n j (omega arith) (omega arith)
+    ]
 
 pub length-value-put : (m : List ℕ) (k : ℕ) (v : List ℕ) → length (value-put m k v) ≡ length m
 unfolding value-put
@@ -76,12 +77,14 @@ value-put-behind m k v i s l =
 
 pub value-put-other : (m : List ℕ) (k : ℕ) (v : List ℕ) (j : ℕ) → length v ≤ 256 → j ≢ k → value-at (value-put m k v) j ≡ value-at m j
 value-put-other m k v j s ne =
-    elim (cases-order j k)
-    [ inl e ↦ absurd (ne e)
-    | inr o ↦
-        elim o
-        [ inl l ↦ value-alike m (value-put m k v) j (λ i a b. value-put-before m k v i (omega arith))
-        | inr l ↦ value-alike m (value-put m k v) j (λ i a b. value-put-behind m k v i s (omega arith)) ] ]
+    elim (cases-order j k) [
+      | inl e ↦ absurd (ne e)
+      | inr o ↦
+          elim o [
+            | inl l ↦ value-alike m (value-put m k v) j (λ i a b. value-put-before m k v i (omega arith))
+            | inr l ↦ value-alike m (value-put m k v) j (λ i a b. value-put-behind m k v i s (omega arith))
+          ]
+    ]
 
 -- the bytes of a word of eight bytes
 module _ (a b c d e f g h : ℕ) where
@@ -160,4 +163,4 @@ module _ (m : List ℕ) (k : ℕ) (v : List ℕ) (long : length m ≡ memory-wor
       let n : value-length (value-put m k v) k ≡ length v = ap (λ x. at-most x 256) put-length ∙ at-most-same (length v) 256 short in
       ap (bytes-at (value-put m k v) (value-row k + 1)) n
       ∙ ext-getD 0 (bytes-at (value-put m k v) (value-row k + 1) (length v)) v (length-map-counting f 0 (length v))
-          (λ i l₁. let l : i < length v = omega (arith, length-map-counting f 0 (length v)) in getD-map-counting f 0 (length v) i i 0 l (omega arith) ∙ put-byte i l)
+      (λ i l₁. let l : i < length v = omega (arith, length-map-counting f 0 (length v)) in getD-map-counting f 0 (length v) i i 0 l (omega arith) ∙ put-byte i l)

@@ -73,17 +73,19 @@ term-first m = refl
 pub log-term : (m : List ℕ) (i : ℕ) → term-before (log-of m) i ≡ term-at m i
 log-term m zero = sym (term-first m)
 log-term m (suc j) =
-    elim (cases-lt j (last-index m))
-    [ inl l ↦ ap (λ (e : Entry). e .term) (log-at m j no-entry l)
-    | inr l ↦ ap (λ (e : Entry). e .term) (getD-past (log-of m) j no-entry (omega (arith, length-log m))) ∙ sym (term-past m (suc j) (omega arith)) ]
+    elim (cases-lt j (last-index m)) [
+      | inl l ↦ ap (λ (e : Entry). e .term) (log-at m j no-entry l)
+      | inr l ↦ ap (λ (e : Entry). e .term) (getD-past (log-of m) j no-entry (omega (arith, length-log m))) ∙ sym (term-past m (suc j) (omega arith))
+    ]
 
 -- the numbers of a tidy log never fall
 pub number-up : (m : List ℕ) → Tidy-entries m → (i j : ℕ) → i ≤ j → j ≤ last-index m → number-at m i ≤ number-at m j
 number-up m t i zero l b = let e : i ≡ 0 = omega arith in rw e (omega arith)
 number-up m t i (suc j) l b =
-    elim (cases-eq i (suc j))
-    [ inl e ↦ rw e (omega arith)
-    | inr ne ↦ omega (arith, number-up m t i j (omega arith) (omega arith), t .rises j (omega arith) .least) ]
+    elim (cases-eq i (suc j)) [
+      | inl e ↦ rw e (omega arith)
+      | inr ne ↦ omega (arith, number-up m t i j (omega arith) (omega arith), t .rises j (omega arith) .least)
+    ]
 
 -- a row of entries one longer, in its decisions
 decisions-push : (l : List Entry) (e : Entry) → decisions (l ++ e ∷ []) ≡ decisions l ++ with-content (e .content) []
@@ -100,13 +102,14 @@ slots-more m n = sym (map-counting-more (λ k. value-at m k) 0 n n (omega arith)
 
 slots-next : (m : List ℕ) (a b : ℕ) → Rises a b → slots m a ++ with-content (content-between m a b) [] ≡ slots m b
 slots-next m a b r =
-    elim (cases-eq b a)
-    [ inl e ↦ ap (λ o. slots m a ++ with-content o []) (content-none m a b e) ∙ (append-nil (slots m a) ∙ ap (slots m) (sym e))
-    | inr ne ↦
-        let s : b ≡ suc a = omega (arith, r .least, r .most) in
-        let p : b - 1 ≡ a = omega arith in
-        ap (λ o. slots m a ++ with-content o []) (content-some m a b (omega arith))
-        ∙ (ap (λ k. slots m a ++ value-at m k ∷ []) p ∙ (slots-more m a ∙ ap (slots m) (sym s))) ]
+    elim (cases-eq b a) [
+      | inl e ↦ ap (λ o. slots m a ++ with-content o []) (content-none m a b e) ∙ (append-nil (slots m a) ∙ ap (slots m) (sym e))
+      | inr ne ↦
+          let s : b ≡ suc a = omega (arith, r .least, r .most) in
+          let p : b - 1 ≡ a = omega arith in
+          ap (λ o. slots m a ++ with-content o []) (content-some m a b (omega arith))
+          ∙ (ap (λ k. slots m a ++ value-at m k ∷ []) p ∙ (slots-more m a ∙ ap (slots m) (sym s)))
+    ]
 
 number-first : (m : List ℕ) → number-at m 0 ≡ 0
 unfolding number-at
@@ -122,8 +125,8 @@ decisions-first m t zero b = none-first m ∙ sym (ap (slots m) (number-first m)
 decisions-first m t (suc n) b =
     ap decisions (entries-more m n)
     ∙ (decisions-push (entries-of m n) (entry-of m n)
-       ∙ (ap (λ vs. vs ++ with-content (entry-of m n .content) []) (decisions-first m t n (omega arith))
-          ∙ slots-next m (number-at m n) (number-at m (suc n)) (t .rises n (omega arith))))
+    ∙ (ap (λ vs. vs ++ with-content (entry-of m n .content) []) (decisions-first m t n (omega arith))
+    ∙ slots-next m (number-at m n) (number-at m (suc n)) (t .rises n (omega arith))))
 
 pub decisions-upto : (m : List ℕ) → Tidy-entries m → (n : ℕ) → n ≤ last-index m → decisions (take n (log-of m)) ≡ slots m (number-at m n)
 decisions-upto m t n b = ap decisions (take-log m n b) ∙ decisions-first m t n b
@@ -145,9 +148,9 @@ unfolding log-entries
 log-entries-part m p n b =
     ext-getD no-entry (map (λ i. log-entry m i) (counting (suc p) n)) (take n (drop p (log-of m))) (length-map-counting (λ i. log-entry m i) (suc p) n ∙ sym long)
     (λ i l₁. let l : i < n = omega (arith, length-map-counting (λ i. log-entry m i) (suc p) n) in
-        getD-map-counting (λ i. log-entry m i) (suc p) n i (suc (p + i)) no-entry l (omega arith)
-        ∙ (entry-from-one m (p + i)
-           ∙ sym (getD-take n (drop p (log-of m)) i no-entry l ∙ (getD-drop p (log-of m) i no-entry ∙ log-at m (p + i) no-entry (omega arith)))))
+    getD-map-counting (λ i. log-entry m i) (suc p) n i (suc (p + i)) no-entry l (omega arith)
+    ∙ (entry-from-one m (p + i)
+    ∙ sym (getD-take n (drop p (log-of m)) i no-entry l ∙ (getD-drop p (log-of m) i no-entry ∙ log-at m (p + i) no-entry (omega arith)))))
   where
     long : length (take n (drop p (log-of m))) ≡ n
     long = length-take-le n (drop p (log-of m)) (omega (arith, length-drop p (log-of m), length-log m))

@@ -9,7 +9,6 @@ ghost use Rattle.raft_log.specs.Entries.{last-index};
 ghost use Rattle.raft_log.specs.Block.{row-code, block-fits, block-entry, block-entries};
 ghost use Rattle.raft_log.specs.View.{log-of, decisions};
 ghost use Rattle.raft_log.specs.Accept.{truncated, entry-taken, entries-taken, entries-fit, merges, merged, commit-noted, refused, hint as hint-of, Append-answered};
-
 use super::Index;
 use super::Number;
 use super::Term;
@@ -60,7 +59,11 @@ fn append_entry(memory: &mut [u64], block: &[u8], count: usize, i: usize)
         return;
     }
     let start = value_offset(block, count, i);
-    write_value(memory, values.0, &block[start..start + entry_length(block, i)]);
+    write_value(
+        memory,
+        values.0,
+        &block[start..start + entry_length(block, i)],
+    );
     push_entry(memory, Index(last.0 + 1), term, Number(values.0 + 1));
 }
 
@@ -142,11 +145,20 @@ fn refusal(memory: &[u64], prev: Index, prev_term: Term) -> Refused
     requires { ⌜ length (now memory) ≡ memory-words ⌝ }
     ensures { λ r. ⌜ r ≡ refused (hint-of (log-of (now (memory .entry))) (prev .0) («prev_term» .0)) ⌝ }
 {
-    Refused { hint: find_conflict_by_term(memory, Index(prev.0.saturating_sub(1)), prev_term) }
+    Refused {
+        hint: find_conflict_by_term(memory, Index(prev.0.saturating_sub(1)), prev_term),
+    }
 }
 
 /// Takes a leader's entries for the places behind `prev`, of which the first `commit` of the log are decided, and says up to where the logs agree. Refused, and nothing changed, where the log lacks `prev` with its term, or has no room.
-pub fn maybe_append(memory: &mut [u64], prev: Index, prev_term: Term, commit: Index, block: &[u8], count: usize) -> Result<Index, Refused>
+pub fn maybe_append(
+    memory: &mut [u64],
+    prev: Index,
+    prev_term: Term,
+    commit: Index,
+    block: &[u8],
+    count: usize,
+) -> Result<Index, Refused>
     requires { ⌜ length (now memory) ≡ memory-words ⌝ }
     requires { ⌜ block-fits (now block) count ≡ true ⌝ }
     ensures { λ r. ⌜ Append-answered (now (memory .entry)) (prev .0) («prev_term» .0) (commit .0) (block-entries (now (block .entry)) count) r (now (memory .exit)) ⌝ }
@@ -182,7 +194,13 @@ mod tests {
     }
 
     // Up to where an append is taken, or else the hint.
-    fn taken(memory: &mut [u64], prev: u64, prev_term: u64, block: &[u8], count: usize) -> Result<u64, u64>
+    fn taken(
+        memory: &mut [u64],
+        prev: u64,
+        prev_term: u64,
+        block: &[u8],
+        count: usize,
+    ) -> Result<u64, u64>
         requires { ⌜ length (now memory) ≡ memory-words ⌝ }
     {
         if !is_valid_block(block, count) {

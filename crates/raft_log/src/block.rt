@@ -4,7 +4,6 @@ ghost use mathlib.Core.Bool.{true};
 ghost use Prim.Native.Nat.{_+_, _*_, _≤_, _<_};
 ghost use lib.ListN.{length};
 ghost use Rattle.raft_log.specs.Block.{row-term, row-code, row-length, value-offset, Values-end, block-fits};
-
 use super::Term;
 use super::bytes::get_u16;
 use super::bytes::get_u64;

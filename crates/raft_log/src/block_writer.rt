@@ -6,15 +6,14 @@ ghost use Rattle.raft_log.specs.Layout.{memory-words};
 ghost use Rattle.raft_log.specs.Values.{value-at, bytes-at};
 ghost use Rattle.raft_log.specs.Bytes.{eight, laid};
 ghost use Rattle.raft_log.specs.Block.{content-code, content-bytes, row-bytes, table-bytes, values-bytes, block-bytes, log-content, Slot-of, log-entry, log-entries};
-
 use super::Index;
 use super::block::ROW_BYTES;
 use super::bytes::put_u16;
 use super::bytes::put_u64;
 use super::entries::number;
 use super::entries::term;
-use super::layout::VALUES;
 use super::layout::VALUE_WORDS;
+use super::layout::VALUES;
 use super::values::value_length;
 
 // The slot of an entry's value; an empty entry has none.

@@ -7,7 +7,6 @@ ghost use Rattle.raft_log.specs.Layout.{memory-words, at-most};
 ghost use Rattle.raft_log.specs.Block.{block-fits, block-entries};
 ghost use Rattle.raft_log.specs.View.{log-of};
 ghost use Rattle.raft_log.specs.Conflict.{has-term, is-up-to-date, conflict, conflict-by-term};
-
 use super::Index;
 use super::Term;
 use super::block::entry_term;

@@ -7,7 +7,6 @@ ghost use lib.ListN.{length};
 ghost use Rattle.std.specs.declared.option.Option.the-variants.{Some, None};
 ghost use Rattle.raft_log.specs.Layout.{memory-words, entry-row};
 ghost use Rattle.raft_log.specs.Entries.{in-log, last-index, commit-index, applied-number, term-at, number-at, values, entry-put, entry-pushed, index, empty-place, Value-appended, Empty-appended, commit-rises, commit-raised, applied-set};
-
 use super::Index;
 use super::Number;
 use super::Term;
@@ -17,8 +16,8 @@ use super::layout::ENTRIES;
 use super::layout::ENTRY_WORDS;
 use super::layout::LAST_INDEX;
 use super::layout::MAX_ENTRIES;
-use super::layout::MAX_VALUES;
 use super::layout::MAX_VALUE_BYTES;
+use super::layout::MAX_VALUES;
 use super::layout::at_most;
 use super::values::write_value;
 

@@ -15,14 +15,18 @@ pub const APPLIED: usize = 66;
 
 /// The row of entry 1: its term, and how many values stand up to it.
 pub const ENTRIES: usize = 72;
+
 pub const ENTRY_WORDS: usize = 2;
 /// Room for as many values, with an empty entry before each and one behind the last.
 pub const MAX_ENTRIES: u64 = 8193;
 
 /// The row of value 1: its length in bytes, and 32 words of 8 bytes, the low byte first.
 pub const VALUES: usize = 16458;
+
 pub const VALUE_WORDS: usize = 33;
+
 pub const MAX_VALUES: u64 = 4096;
+
 pub const MAX_VALUE_BYTES: u64 = 256;
 
 /// The length of the whole memory.

@@ -5,10 +5,9 @@ ghost use Prim.Native.Nat.{ℕ, _+_, _*_, _≤_, _<_};
 ghost use lib.ListN.{length, drop};
 ghost use Rattle.raft_log.specs.Layout.{memory-words, value-row, at-most};
 ghost use Rattle.raft_log.specs.Values.{byte-in, byte-at, value-length, value-at, byte-or, word-of, value-put};
-
 use super::layout::MAX_VALUE_BYTES;
-use super::layout::VALUES;
 use super::layout::VALUE_WORDS;
+use super::layout::VALUES;
 
 fn row_of(slot: u64) -> usize
     requires { ⌜ slot < 4096 ⌝ }
@@ -47,7 +46,11 @@ pub fn value_length(memory: &[u64], slot: u64) -> usize
     ensures short { λ r. ⌜ r ≤ 256 ⌝ }
 {
     let told = memory[row_of(slot)];
-    if told < MAX_VALUE_BYTES { told as usize } else { MAX_VALUE_BYTES as usize }
+    if told < MAX_VALUE_BYTES {
+        told as usize
+    } else {
+        MAX_VALUE_BYTES as usize
+    }
 }
 
 /// Puts the value of a slot at the front of `out`, and says how long it is.
@@ -67,7 +70,11 @@ pub fn read_value(memory: &[u64], slot: u64, out: &mut [u8]) -> usize
 fn byte_or_zero(bytes: &[u8], i: usize) -> u64
     ensures { λ r. ⌜ r ≡ byte-or (now (bytes .entry)) i ⌝ }
 {
-    if i < bytes.len() { u64::from(bytes[i]) } else { 0 }
+    if i < bytes.len() {
+        u64::from(bytes[i])
+    } else {
+        0
+    }
 }
 
 fn word_of(bytes: &[u8], j: usize) -> u64

@@ -7,12 +7,12 @@ ghost use Rattle.solo.specs.Proposal.{proposed};
 ghost use Rattle.together.specs.Machine.{go-on, after-proposal};
 ghost use Rattle.together.specs.Entry.{Did};
 use super::Told;
+use raft_log::Number;
+use raft_log::values::read_value;
 use solo::apply::advance;
 use solo::apply::due;
 use solo::header::load;
 use solo::header::store;
-use raft_log::Number;
-use raft_log::values::read_value;
 
 /// Does the next act that is due.
 pub fn go_on(memory: &mut [u64], out: &mut [u8]) -> Told

@@ -9,11 +9,11 @@ mod acts;
 
 use acts::go_on;
 use acts::propose;
+use raft_log::MachineId;
 use solo::election::tick;
 use solo::header::ClusterSize;
 use solo::header::load;
 use solo::power::power;
-use raft_log::MachineId;
 use tracker::committed_index;
 
 /// The length of a machine's memory, in words.

@@ -15,12 +15,12 @@ pub returns-in-Append : need.returns-in-Append
 returns-in-Append c =
     let es = log-entries (c .args .memory .now) (c .in-Append .prev-index .0 + 1) (c .in-Append .count) in
     let n : c .write-block .result ≡ length (letter-bytes (append (c .in-Append .term .0) (c .in-Append .prev-index .0) (c .in-Append .prev-term .0) (c .in-Append .commit .0) es)) =
-          omega (arith, length-append (c .in-Append .term .0) (c .in-Append .prev-index .0) (c .in-Append .prev-term .0) (c .in-Append .commit .0) es, c .write-block .ensures .end) in
+    omega (arith, length-append (c .in-Append .term .0) (c .in-Append .prev-index .0) (c .in-Append .prev-term .0) (c .in-Append .commit .0) es, c .write-block .ensures .end) in
     let put = append-put (c .args .out .now) (c .put-three .last .out) (c .put-count .last .out) (c .write-block .last .out)
-          (c .in-Append .term .0) (c .in-Append .prev-index .0) (c .in-Append .prev-term .0) (c .in-Append .commit .0) (c .in-Append .count) es
-          (length-log-entries (c .args .memory .now) (c .in-Append .prev-index .0 + 1) (c .in-Append .count)) (omega arith) (c .put-three .ensures .put) (c .put-count .ensures) (c .write-block .ensures .put) in
+    (c .in-Append .term .0) (c .in-Append .prev-index .0) (c .in-Append .prev-term .0) (c .in-Append .commit .0) (c .in-Append .count) es
+    (length-log-entries (c .args .memory .now) (c .in-Append .prev-index .0 + 1) (c .in-Append .count)) (omega arith) (c .put-three .ensures .put) (c .put-count .ensures) (c .write-block .ensures .put) in
     let both = told (append (c .in-Append .term .0) (c .in-Append .prev-index .0) (c .in-Append .prev-term .0) (c .in-Append .commit .0) es) (letter-from (c .args .memory .now) (c .args .message)) (c .args .out .now) (c .write-block .last .out) (c .write-block .result)
-          (ap (letter-from (c .args .memory .now)) (c .in-Append .is)) n put in
+    (ap (letter-from (c .args .memory .now)) (c .in-Append .is)) n put in
     record { long = both .0; short = omega arith; put = both .1 }
 
 pub returns-in-AppendResponse : need.returns-in-AppendResponse

@@ -7,7 +7,8 @@ use Rattle.messages.proofs.encoder.put_three.Needs as need
 
 pub returns : need.returns
 returns c =
-    record
-      { end = refl
-      ; put = put-more (c .args .out .now) (c .put-two .last .out) (c .put-u64 .last .out) 0 17 (c .args .kind ∷ (eight (c .args .first) ++ eight (c .args .second))) (eight (c .args .third)) refl (omega arith)
-                (c .put-two .ensures .put) (c .put-u64 .ensures) }
+    record {
+      end = refl;
+      put = put-more (c .args .out .now) (c .put-two .last .out) (c .put-u64 .last .out) 0 17 (c .args .kind ∷ (eight (c .args .first) ++ eight (c .args .second))) (eight (c .args .third)) refl (omega arith)
+          (c .put-two .ensures .put) (c .put-u64 .ensures);
+    }

@@ -19,6 +19,6 @@ pub returns-in-Append : need.returns-in-Append
 returns-in-Append c =
     c .on-append .ensures
     ∙ (ap
-        (λ (bs : List ℕ). append-as (c .args .memory .now) (c .args .machine) (c .args .machine .role) (c .args .from .0) (c .in-Append .prev-index .0) (c .in-Append .prev-term .0) (c .in-Append .commit .0) (block-entries bs (c .in-Append .count)))
-        (rest-from (c .args .bytes .now) 34)
-       ∙ sym (ap (λ (y : Message). handle-with (c .args .memory .now) (c .args .machine) (c .args .from .0) (letter-in (c .args .bytes .now) y)) (c .in-Append .is)))
+    (λ (bs : List ℕ). append-as (c .args .memory .now) (c .args .machine) (c .args .machine .role) (c .args .from .0) (c .in-Append .prev-index .0) (c .in-Append .prev-term .0) (c .in-Append .commit .0) (block-entries bs (c .in-Append .count)))
+    (rest-from (c .args .bytes .now) 34)
+    ∙ sym (ap (λ (y : Message). handle-with (c .args .memory .now) (c .args .machine) (c .args .from .0) (letter-in (c .args .bytes .now) y)) (c .in-Append .is)))

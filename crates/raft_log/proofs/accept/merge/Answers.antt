@@ -18,9 +18,10 @@ find-conflict-requires c κs = (c .pre .0 .0, (omega (arith, c .pre .0 .1, last-
 pub returns-in-rest : need.returns-in-rest
 returns-in-rest c =
     let e = sym (c .find-conflict .ensures) ∙ c .in-rest .is in
-    record
-    { fits = sym (merges-none (c .args .memory .now) (c .args .prev .0) (block-entries (c .args .block .now) (c .args .count)) e)
-    ; done = sym (merged-none (c .args .memory .now) (c .args .prev .0) (block-entries (c .args .block .now) (c .args .count)) e) }
+    record {
+      fits = sym (merges-none (c .args .memory .now) (c .args .prev .0) (block-entries (c .args .block .now) (c .args .count)) e);
+      done = sym (merged-none (c .args .memory .now) (c .args .prev .0) (block-entries (c .args .block .now) (c .args .count)) e);
+    }
 
 pub sub-index : need.sub-index
 sub-index c =

@@ -11,5 +11,5 @@ pub returns : need.returns
 unfolding commit-noted
 returns c =
     let known : c .if-known-index .memory ≡ max (commit-index (c .args .memory .now)) (c .args .index .0) =
-          elim (c .if-known-index .came) [ then-known-index w ↦ omega (arith, w .memory-is, c .committed-known .ensures .is) | else-known-index w ↦ omega (arith, w .memory-is, c .committed-known .ensures .is) ] in
+    elim (c .if-known-index .came) [ then-known-index w ↦ omega (arith, w .memory-is, c .committed-known .ensures .is) | else-known-index w ↦ omega (arith, w .memory-is, c .committed-known .ensures .is) ] in
     ap (set (c .args .memory .now) 65) known

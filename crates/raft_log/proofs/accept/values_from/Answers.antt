@@ -14,6 +14,7 @@ loop-i-again c = (omega (arith, counted-more (c .args .block .now) (c .args .cou
 
 pub returns : need.returns
 returns c =
-    record
-    { is = omega (arith, counted-all (c .args .block .now) (c .args .count) (c .loop-i .i) (omega arith))
-    ; few = omega (arith, fits (c .args .block .now) (c .args .count) (c .pre .0) .few) }
+    record {
+      is = omega (arith, counted-all (c .args .block .now) (c .args .count) (c .loop-i .i) (omega arith));
+      few = omega (arith, fits (c .args .block .now) (c .args .count) (c .pre .0) .few);
+    }

@@ -12,5 +12,5 @@ returns-in-rest c =
 pub returns : need.returns
 returns c =
     let p = put-some (log-content (c .args .memory .now) (c .args .index .0)) (c .args .out .now) (value-at (c .args .memory .now) (c .in-Some .slot)) (c .args .at) (c .write-slot .result) (c .write-slot .last .out)
-          (c .in-Some .ensures tt .0) (c .write-slot .ensures .end) (c .write-slot .ensures .put) in
+    (c .in-Some .ensures tt .0) (c .write-slot .ensures .end) (c .write-slot .ensures .put) in
     record { end = p .end-is; short = c .write-slot .ensures .short; put = p .is }
