@@ -3,19 +3,19 @@ use mathlib.Core.Path.{_≡_, refl, sym, ap, subst, _∙_}
 use mathlib.Core.Bool.{Bool, true, false, cond, _&&_}
 use mathlib.Core.List.{List, [], _∷_, _++_}
 use mathlib.Core.Logic.{inl, inr}
-use mathlib.Core.Option.{Option, none, some}
-use Prim.Native.Nat.{ℕ, zero, suc, _+_, _*_, _^_, _≤_, _<_}
+use mathlib.Core.Option.{none, some}
+use Prim.Native.Nat.{ℕ, zero, suc, _+_, _≤_}
 use native.Mathlib.Omega.{arith}
 use lib.Dec.{eqb, leb}
 use lib.ListN.{length, getD, drop}
-use Rattle.std.proofs.shelf.Lists.{append-nil, drop-all, drop-more, length-drop}
-use Rattle.std.proofs.shelf.Tests.{leb-true, eqb-true, and-parts, cond-true, cond-false, cases-bool, cases-eq}
+use Rattle.std.proofs.shelf.Lists.{append-nil, drop-all, drop-more}
+use Rattle.std.proofs.shelf.Tests.{leb-true, eqb-true, and-parts, cases-eq}
 use Rattle.raft_log.specs.Bytes.{Bytes, eight, word-at}
 use Rattle.raft_log.specs.Block.{Entry, block-bytes, block-entries, block-fits}
 use Rattle.raft_log.proofs.ByteLaws.{eight-at, word-small, bytes-drop}
-use Rattle.raft_log.proofs.BlockReads.{Fits, fits}
+use Rattle.raft_log.proofs.BlockReads.{fits}
 use Rattle.raft_log.proofs.BlockWhole.{block-whole, entries-fit, length-block-entries}
-use Rattle.messages.specs.Letter.{Letter, append, append-response, append-reject, request-vote, request-vote-response, term-notice, bit, letter-bytes, append-of, append-response-of, append-reject-of, request-vote-of, request-vote-response-of, term-notice-of, kind, letter-of, Letter-fits, One-to-one}
+use Rattle.messages.specs.Letter.{Letter, append, append-response, append-reject, request-vote, request-vote-response, term-notice, bit, letter-bytes, append-of, append-response-of, append-reject-of, request-vote-of, request-vote-response-of, term-notice-of, kind, Letter-fits, One-to-one}
 use Rattle.messages.proofs.Decoding.{kind-1, kind-2, kind-3, kind-4, kind-5, kind-6, kind-none}
 
 -- bs are the bytes of the letter l
@@ -97,9 +97,11 @@ module _ (bs : List ℕ) (b : Bytes bs) where
 
     is-append : kind bs ≡ 1 → append-of bs ≡ some l → Same bs l
     is-append e h =
-        let t = let-through (leb 34 (length bs) && block-fits (drop 34 bs) (getD bs 33 0)) (append (word-at bs 1) (word-at bs 9) (word-at bs 17) (word-at bs 25) (block-entries (drop 34 bs) (getD bs 33 0))) l h in
-        let p = and-parts (leb 34 (length bs)) (block-fits (drop 34 bs) (getD bs 33 0)) (t .0) in
-        same (append (word-at bs 1) (word-at bs 9) (word-at bs 17) (word-at bs 25) (block-entries (drop 34 bs) (getD bs 33 0))) (t .1) (append-same e (leb-true 34 (length bs) (p .0)) (p .1))
+        let n : ℕ = getD bs 33 0 in
+        let x : Letter = append (word-at bs 1) (word-at bs 9) (word-at bs 17) (word-at bs 25) (block-entries (drop 34 bs) n) in
+        let t = let-through (leb 34 (length bs) && block-fits (drop 34 bs) n) x l h in
+        let p = and-parts (leb 34 (length bs)) (block-fits (drop 34 bs) n) (t .0) in
+        same x (t .1) (append-same e (leb-true 34 (length bs) (p .0)) (p .1))
 
     is-append-response : kind bs ≡ 2 → append-response-of bs ≡ some l → Same bs l
     unfolding letter-bytes

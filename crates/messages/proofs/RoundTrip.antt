@@ -1,12 +1,12 @@
 -- Every letter that a machine can make comes back from its bytes.
-use mathlib.Core.Path.{_≡_, refl, sym, ap, _∙_}
-use mathlib.Core.Bool.{Bool, true, false, cond, _&&_}
+use mathlib.Core.Path.{_≡_, ap, _∙_}
+use mathlib.Core.Bool.{Bool, true, false, _&&_}
 use mathlib.Core.List.{List, [], _∷_, _++_}
-use mathlib.Core.Option.{Option, none, some}
-use Prim.Native.Nat.{ℕ, _+_, _*_, _^_, _≤_, _<_}
+use mathlib.Core.Option.{none, some}
+use Prim.Native.Nat.{ℕ, _^_, _≤_, _<_}
 use native.Mathlib.Omega.{arith}
-use lib.Dec.{eqb, leb}
-use lib.ListN.{length, getD, drop}
+use lib.Dec.{leb}
+use lib.ListN.{length}
 use Rattle.std.proofs.shelf.Tests.{le-leb, and-from, cond-true}
 use Rattle.raft_log.specs.Bytes.{Bytes, eight, word-at}
 use Rattle.raft_log.specs.Block.{Entry, block-bytes, block-entries, block-fits, Entries-fit}

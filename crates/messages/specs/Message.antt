@@ -1,16 +1,17 @@
 -- What the messages of the code stand for.
 use mathlib.Core.Path.{_≡_}
 use mathlib.Core.Bool.{true}
-use mathlib.Core.List.{List, []}
+use mathlib.Core.List.{List}
 use mathlib.Core.Option.{Option, none, some}
-use Prim.Native.Nat.{ℕ, _+_, _≤_}
+use Prim.Native.Nat.{ℕ, _+_, _^_, _≤_, _<_}
 use lib.ListN.{length, drop}
 use Rattle.std.specs.declared.option.Option.{Option as Maybe}
 use Rattle.std.specs.declared.option.Option.the-variants.{Some, None}
 use Rattle.messages.specs.declared.Message.{Message}
 use Rattle.messages.specs.declared.Message.the-variants.{Append, AppendResponse, AppendReject, RequestVote, RequestVoteResponse, TermNotice}
+use Rattle.raft_log.specs.Bytes.{Words}
 use Rattle.raft_log.specs.Block.{Entry, block-entries, block-fits, log-entries}
-use Rattle.messages.specs.Letter.{Letter, append, append-response, append-reject, request-vote, request-vote-response, term-notice}
+use Rattle.messages.specs.Letter.{Letter, append, append-response, append-reject, request-vote, request-vote-response, term-notice, letter-bytes, letter-of}
 
 -- the letter of a message, given the entries of a block of n behind index p
 abbrev pub letter-with : (ℕ → ℕ → List Entry) → Message → Letter
@@ -55,3 +56,16 @@ Sendable (AppendReject t p h) = Unit {0}
 Sendable (RequestVote t i q) = Unit {0}
 Sendable (RequestVoteResponse t b) = Unit {0}
 Sendable (TermNotice t) = Unit {0}
+
+-- the numbers of a message are words
+abbrev pub Numbers : Message → Type 0
+Numbers (Append t p q k n) = (t .0 < 2 ^ 64) × (p .0 < 2 ^ 64) × (q .0 < 2 ^ 64) × (k .0 < 2 ^ 64)
+Numbers (AppendResponse t i) = (t .0 < 2 ^ 64) × (i .0 < 2 ^ 64)
+Numbers (AppendReject t p h) = (t .0 < 2 ^ 64) × (p .0 < 2 ^ 64) × (h .0 < 2 ^ 64)
+Numbers (RequestVote t i q) = (t .0 < 2 ^ 64) × (i .0 < 2 ^ 64) × (q .0 < 2 ^ 64)
+Numbers (RequestVoteResponse t b) = t .0 < 2 ^ 64
+Numbers (TermNotice t) = t .0 < 2 ^ 64
+
+-- WHAT A MACHINE SENDS comes back from its bytes, with the entries of its log
+abbrev pub Sent-comes-back : Type 0
+Sent-comes-back = (m : List ℕ) (s : Message) → Words m → Numbers s → Sendable s → letter-of (letter-bytes (letter-from m s)) ≡ some (letter-from m s)

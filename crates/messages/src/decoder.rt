@@ -1,5 +1,4 @@
 //! Letters from bytes. What is no letter is refused.
-ghost use mathlib.Core.Path.{_≡_};
 ghost use Rattle.messages.specs.Letter.{append-of, append-response-of, append-reject-of, request-vote-of, request-vote-response-of, term-notice-of, letter-of};
 ghost use Rattle.messages.specs.Message.{Gives, Readable};
 use super::APPEND;

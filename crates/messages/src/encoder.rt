@@ -1,7 +1,7 @@
 //! Letters to bytes.
 ghost use mathlib.Core.Path.{_≡_};
-ghost use mathlib.Core.List.{List, [], _∷_, _++_};
-ghost use Prim.Native.Nat.{_≤_, _<_};
+ghost use mathlib.Core.List.{[], _∷_, _++_};
+ghost use Prim.Native.Nat.{_≤_};
 ghost use lib.ListN.{length, drop};
 ghost use Rattle.raft_log.specs.Layout.{memory-words};
 ghost use Rattle.raft_log.specs.Bytes.{eight, laid};

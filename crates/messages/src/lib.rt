@@ -9,26 +9,26 @@ pub mod encoder;
 mod tests;
 pub mod theorems;
 
-/// The first byte of a letter says what it is.
+/// The kinds of letters: the first byte says which it is.
 const APPEND: u8 = 1;
-
+/// What was appended.
 const APPEND_RESPONSE: u8 = 2;
-
+/// That it could not be.
 const APPEND_REJECT: u8 = 3;
-
+/// A candidate asks.
 const REQUEST_VOTE: u8 = 4;
-
+/// It is answered.
 const REQUEST_VOTE_RESPONSE: u8 = 5;
-
+/// A term, and nothing else.
 const TERM_NOTICE: u8 = 6;
 
-/// Where the numbers of a letter stand, behind its kind.
+/// Where the numbers of a letter stand, behind its kind: the term.
 const FIRST: usize = 1;
-
+/// Behind the term; a letter with one number ends here.
 const SECOND: usize = 9;
-
+/// A letter with two numbers ends here.
 const THIRD: usize = 17;
-
+/// A letter with three numbers ends here.
 const FOURTH: usize = 25;
 /// Where an append says how many entries it has.
 const COUNT_AT: usize = 33;
@@ -65,6 +65,7 @@ pub enum Message {
         last_index: Index,
         last_term: Term,
     },
+    /// Whether the vote is the candidate's.
     RequestVoteResponse {
         term: Term,
         granted: bool,

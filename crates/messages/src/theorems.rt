@@ -1,5 +1,6 @@
 //! What holds of letters and their bytes.
 ghost use Rattle.messages.specs.Letter.{Round-trip, Letters-short, One-to-one};
+ghost use Rattle.messages.specs.Message.{Sent-comes-back};
 
 /// Every letter that a machine can make comes back from its bytes.
 pub fn round_trip() -> u8
@@ -18,6 +19,13 @@ pub fn letters_are_short() -> u8
 /// Bytes that are a letter are the bytes of just that letter.
 pub fn one_to_one() -> u8
     ensures { λ _. ⌜ One-to-one ⌝ }
+{
+    0
+}
+
+/// What a machine sends comes back from its bytes, with the entries of its log.
+pub fn sent_comes_back() -> u8
+    ensures { λ _. ⌜ Sent-comes-back ⌝ }
 {
     0
 }

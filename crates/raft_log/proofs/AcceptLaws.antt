@@ -1,44 +1,33 @@
 -- What an append makes of the log that a memory stands for.
 use mathlib.Core.Path.{_≡_, refl, sym, ap, subst, _∙_}
-use mathlib.Core.Bool.{Bool, true, false, cond, _&&_}
+use mathlib.Core.Bool.{true}
 use mathlib.Core.List.{List, [], _∷_, _++_}
-use mathlib.Core.Option.{none, some}
-use mathlib.Core.Option.{Option as Content}
+use mathlib.Core.Option.{Option as Content, none, some}
 use mathlib.Core.Logic.{_≢_, inl, inr}
-use Prim.Native.Nat.{ℕ, zero, suc, _+_, _-_, _*_, _≤_, _<_, min, max}
+use Prim.Native.Nat.{ℕ, zero, suc, _+_, _-_, _≤_, _<_, min, max}
 use native.Mathlib.Omega.{arith}
 use native.Mathlib.Numerals.{add-one}
-use lib.Dec.{eqb, leb, ltb}
-use lib.ListN.{length, getD, set, take, drop}
+use lib.ListN.{length, getD, take, drop}
 use Rattle.std.specs.declared.option.Option.{Option}
 use Rattle.std.specs.declared.option.Option.the-variants.{Some, None}
 use Rattle.std.proofs.shelf.Lists.{append-nil, append-assoc, length-append, length-take, length-take-le, length-drop, take-all, getD-take, getD-drop, getD-past, length-set, getD-set-same, getD-set-other}
-use Rattle.std.proofs.shelf.Tests.{and-parts, cond-both, cases-lt, ltb-true, ltb-false}
+use Rattle.std.proofs.shelf.Tests.{and-parts, cases-lt}
 use Rattle.raft_log.specs.declared.Index.{Index}
-use Rattle.raft_log.specs.Layout.{memory-words, at-most, entry-row}
-use Rattle.raft_log.specs.Entries.{last-index, commit-index, number-at, values, entry-pushed, value-fits, value-appended}
-use Rattle.raft_log.specs.Block.{Entry, row-code, row-length, value-offset, content-of, block-entry, block-entries, block-fits}
-use Rattle.raft_log.specs.View.{entry, log-of, Tidy-entries, Tidy, no-entry, with-content, decisions}
-use Rattle.raft_log.specs.Conflict.{has-term, conflict, spliced, merge}
+use Rattle.raft_log.specs.Layout.{memory-words, at-most}
+use Rattle.raft_log.specs.Entries.{last-index, commit-index, values, entry-pushed}
+use Rattle.raft_log.specs.Block.{Entry, row-code, row-length, value-offset, content-of, block-entries, block-fits}
+use Rattle.raft_log.specs.View.{entry, log-of, Tidy-entries, Tidy, no-entry, with-content, decisions, Valid-content, Valid}
+use Rattle.raft_log.specs.Conflict.{has-term, conflict, spliced, Agreeing, merge}
 use Rattle.raft_log.specs.Accept.{truncated, content-taken, entry-taken, entries-taken, entries-fit, merges, merged, commit-noted, accepts, accepted}
-use Rattle.raft_log.proofs.ValueLaws.{at-most-le, at-most-same, Bytes}
-use Rattle.raft_log.proofs.LogLaws.{Same-entries, same-entries, last-most, number-most, commit-most}
+use Rattle.raft_log.proofs.ValueLaws.{at-most-same, Bytes}
+use Rattle.raft_log.proofs.LogLaws.{Same-entries, same-entries, commit-most}
 use Rattle.raft_log.proofs.AppendLaws.{pushed-other, appended-header}
 use Rattle.raft_log.proofs.ViewLaws.{length-log}
-use Rattle.raft_log.proofs.LogChanges.{same-log, same-tidy, truncated-last, truncated-other, length-truncated, truncated-tidy, truncated-log}
+use Rattle.raft_log.proofs.LogChanges.{same-log, same-tidy, truncated-other, truncated-tidy, truncated-log}
 use Rattle.raft_log.proofs.LogAppends.{value-appended-log, value-appended-tidy-entries, empty-pushed-log, empty-pushed-tidy}
-use Rattle.raft_log.proofs.ConflictLaws.{Within, conflict-within, length-block-entries, block-entries-at}
-use Rattle.raft_log.proofs.TakeLaws.{Short, Took, took, value-room, value-short, fit-entry, fit-values, entries-fit-from}
-use Rattle.raft_log.proofs.MergeLaws.{at-most-min, prev-within, conflict-none-long, merges-some, merged-none, merged-some, Agreeing, spliced-merge}
-
--- a value of up to 256 bytes, or none
-abbrev pub Valid-content : Content (List ℕ) → Type 0
-Valid-content none = Unit {0}
-Valid-content (some v) = (length v ≤ 256) × Bytes v
-
--- entries that a memory can hold
-abbrev pub Valid : List Entry → Type 0
-Valid es = (i : ℕ) → i < length es → Valid-content (getD es i no-entry .content)
+use Rattle.raft_log.proofs.ConflictLaws.{conflict-within, length-block-entries, block-entries-at}
+use Rattle.raft_log.proofs.TakeLaws.{Short, took, value-room, value-short, fit-entry, fit-values, entries-fit-from}
+use Rattle.raft_log.proofs.MergeLaws.{at-most-min, prev-within, conflict-none-long, merges-some, merged-none, merged-some, spliced-merge}
 
 pub valid-drop : (es : List Entry) (k : ℕ) → Valid es → Valid (drop k es)
 valid-drop es k h i l =

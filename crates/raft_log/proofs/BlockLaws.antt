@@ -1,18 +1,17 @@
 -- A block of entries that was written is read as those entries.
 use mathlib.Core.Path.{_≡_, refl, sym, ap, _∙_}
-use mathlib.Core.Bool.{Bool, true, false, cond, _&&_}
+use mathlib.Core.Bool.{true, _&&_}
 use mathlib.Core.List.{List, [], _∷_, _++_, map}
 use mathlib.Core.Option.{Option, none, some}
-use Prim.Native.Nat.{ℕ, zero, suc, _+_, _*_, _-_, _^_, _≤_, _<_}
+use Prim.Native.Nat.{ℕ, zero, suc, _+_, _*_, _-_, _≤_, _<_}
 use native.Mathlib.Omega.{arith}
-use native.Mathlib.Numerals.{add-one}
 use lib.Dec.{eqb, leb}
 use lib.ListN.{length, getD, take, drop}
 use Rattle.std.specs.Iters.{counting}
 use Rattle.std.proofs.shelf.Lists.{append-assoc, length-append, take-append-drop, take-at, drop-at, drop-drop, take-all, take-more, drop-more, ext-getD}
 use Rattle.std.proofs.shelf.Counted.{length-map-counting, getD-map-counting}
 use Rattle.std.proofs.shelf.Tests.{le-leb, eq-eqb, and-from}
-use Rattle.raft_log.specs.Bytes.{Bytes, eight, two, word-at, pair-at}
+use Rattle.raft_log.specs.Bytes.{word-at, pair-at}
 use Rattle.raft_log.specs.Block.{Entry, content-code, content-bytes, row-bytes, table-bytes, values-bytes, block-bytes, Content-fits, Entries-fit, row-term, row-code, row-length, value-offset, content-of, block-entry, block-entries, codes-fit, block-fits}
 use Rattle.raft_log.proofs.ByteLaws.{word-drop, pair-drop}
 use Rattle.raft_log.proofs.BlockReads.{value-offset-none, value-offset-more, codes-fit-none, codes-fit-more}

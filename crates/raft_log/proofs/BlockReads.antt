@@ -1,9 +1,9 @@
 -- A table that is read one more row at a time.
-use mathlib.Core.Path.{_≡_, refl, sym, ap, _∙_}
-use mathlib.Core.Bool.{Bool, true, false, _&&_}
+use mathlib.Core.Path.{_≡_, refl}
+use mathlib.Core.Bool.{true, false, _&&_}
 use mathlib.Core.List.{List}
 use mathlib.Core.Logic.{inl, inr}
-use Prim.Native.Nat.{ℕ, zero, suc, _+_, _*_, _-_, _≤_, _<_}
+use Prim.Native.Nat.{ℕ, zero, suc, _+_, _*_, _≤_, _<_}
 use native.Mathlib.Omega.{arith}
 use native.Mathlib.Numerals.{add-one}
 use lib.Dec.{eqb, leb}
@@ -17,7 +17,7 @@ value-offset-none bs n = refl
 
 pub value-offset-more : (bs : List ℕ) (n i : ℕ) → value-offset bs n (i + 1) ≡ value-offset bs n i + row-length bs i
 unfolding value-offset
-value-offset-more bs n i = rw add-one
+value-offset-more bs n i = rw (add-one i)
 
 pub codes-fit-none : (bs : List ℕ) → codes-fit bs 0 ≡ true
 unfolding codes-fit

@@ -1,18 +1,18 @@
 -- Bytes that are a block are the bytes of its entries, and those are entries that a log can hold.
 use mathlib.Core.Path.{_≡_, refl, sym, ap, _∙_}
-use mathlib.Core.Bool.{Bool, true, false}
+use mathlib.Core.Bool.{true}
 use mathlib.Core.List.{List, [], _∷_, _++_, map}
 use mathlib.Core.Option.{Option, none, some}
-use Prim.Native.Nat.{ℕ, zero, suc, _+_, _*_, _-_, _^_, _≤_, _<_}
+use Prim.Native.Nat.{ℕ, zero, suc, _+_, _*_, _-_, _≤_, _<_}
 use native.Mathlib.Omega.{arith}
 use native.Mathlib.Nat.{add-zero}
-use lib.ListN.{length, getD, take, drop}
+use lib.ListN.{length, take, drop}
 use Rattle.std.specs.Iters.{counting}
 use Rattle.std.proofs.shelf.Lists.{append-assoc, append-nil, length-drop, length-take-le, take-append-drop, drop-drop, drop-all}
 use Rattle.std.proofs.shelf.Counted.{length-map-counting}
 use Rattle.raft_log.specs.Bytes.{Bytes, eight, two}
 use Rattle.raft_log.specs.Block.{Entry, content-code, content-bytes, row-bytes, table-bytes, values-bytes, block-bytes, Content-fits, Entries-fit, row-term, row-code, row-length, value-offset, content-of, block-entry, block-entries, block-fits}
-use Rattle.raft_log.proofs.ByteLaws.{eight-at, two-at, word-small, bytes-none, bytes-cons, bytes-append, bytes-take, bytes-drop, bytes-eight, bytes-two}
+use Rattle.raft_log.proofs.ByteLaws.{eight-at, two-at, word-small, bytes-none, bytes-append, bytes-take, bytes-drop, bytes-eight, bytes-two}
 use Rattle.raft_log.proofs.BlockReads.{value-offset-none, value-offset-more, Fits, fits}
 
 code-again : (k : ℕ) (v : List ℕ) → length v ≡ k - 1 → content-code (content-of k v) ≡ k

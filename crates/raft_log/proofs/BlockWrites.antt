@@ -1,14 +1,13 @@
 -- A block that is written one more row, value or word at a time.
 use mathlib.Core.Path.{_≡_, refl, sym, ap, _∙_}
-use mathlib.Core.Bool.{Bool, true, false, cond}
 use mathlib.Core.List.{List, [], _∷_, _++_, map}
 use mathlib.Core.Option.{Option, none, some}
-use Prim.Native.Nat.{ℕ, zero, suc, _+_, _*_, _-_, _/_, _%_, _≤_, _<_}
+use Prim.Native.Nat.{ℕ, zero, suc, _+_, _*_, _/_, _%_, _≤_, _<_}
 use native.Mathlib.Omega.{arith}
 use native.Mathlib.Nat.{add-zero, zero-add}
-use lib.ListN.{length, getD, take, drop}
+use lib.ListN.{length, getD, take}
 use Rattle.std.specs.Iters.{counting}
-use Rattle.std.proofs.shelf.Lists.{append-assoc, append-nil, length-append, length-take-le, map-append}
+use Rattle.std.proofs.shelf.Lists.{append-assoc, append-nil, length-append, map-append}
 use Rattle.std.proofs.shelf.Counted.{length-map-counting, take-map-counting, map-counting-more}
 use Rattle.raft_log.specs.Layout.{value-row}
 use Rattle.raft_log.specs.Values.{byte-in, byte-at, bytes-at, value-length, value-at}

@@ -1,7 +1,7 @@
 -- Bytes put over others are read back, and the rest stays as it was.
 use mathlib.Core.Path.{_≡_, refl, sym, ap, _∙_}
 use mathlib.Core.List.{List, [], _∷_, _++_}
-use Prim.Native.Nat.{ℕ, zero, suc, _+_, _*_, _-_, _/_, _%_, _^_, _≤_, _<_}
+use Prim.Native.Nat.{ℕ, zero, suc, _+_, _*_, _/_, _%_, _≤_, _<_}
 use native.Mathlib.Omega.{arith}
 use native.Mathlib.Nat.{add-assoc, add-zero}
 use native.Mathlib.Numerals.{add-one}
@@ -84,7 +84,7 @@ bytes-take [] (suc k) b = bytes-none
 bytes-take (x ∷ xs) zero b = bytes-none
 bytes-take (x ∷ xs) (suc k) b = bytes-cons x (take k xs) (b 0) (bytes-take xs k (λ i. b (suc i)))
 
-low : (x : ℕ) → x % 256 < 256
+pub low : (x : ℕ) → x % 256 < 256
 low x = omega arith
 
 pub bytes-eight : (w : ℕ) → Bytes (eight w)

@@ -1,14 +1,12 @@
 -- How far a log and a block of entries agree.
-use mathlib.Core.Path.{_≡_, refl, sym, ap, subst, _∙_}
-use mathlib.Core.Bool.{Bool, true, false, cond, _&&_, _||_}
-use mathlib.Core.List.{List, [], _∷_, _++_}
+use mathlib.Core.Path.{_≡_, refl, sym, ap, _∙_}
+use mathlib.Core.Bool.{true, false, _&&_, _||_}
+use mathlib.Core.List.{List, [], _∷_}
 use mathlib.Core.Logic.{inl, inr}
-use Prim.Native.Nat.{ℕ, zero, suc, _+_, _-_, _*_, _≤_, _<_}
+use Prim.Native.Nat.{ℕ, zero, suc, _+_, _-_, _≤_, _<_}
 use native.Mathlib.Omega.{arith}
-use native.Mathlib.Numerals.{add-one}
 use lib.Dec.{eqb, leb, ltb}
 use lib.ListN.{length, getD, drop}
-use Rattle.std.specs.declared.option.Option.{Option}
 use Rattle.std.specs.declared.option.Option.the-variants.{Some, None}
 use Rattle.std.proofs.shelf.Lists.{drop-more, drop-all}
 use Rattle.std.proofs.shelf.Counted.{length-map-counting, getD-map-counting}
@@ -17,7 +15,7 @@ use Rattle.raft_log.specs.declared.Index.{Index}
 use Rattle.raft_log.specs.Entries.{last-index, term-at, index}
 use Rattle.raft_log.specs.Block.{Entry, block-entry, block-entries, row-term}
 use Rattle.raft_log.specs.View.{log-of, no-entry, term-before}
-use Rattle.raft_log.specs.Conflict.{has-term, is-up-to-date, conflict, has-entries, conflict-by-term}
+use Rattle.raft_log.specs.Conflict.{has-term, is-up-to-date, conflict, conflict-by-term}
 use Rattle.raft_log.proofs.ViewLaws.{length-log, log-term}
 
 -- THE ENTRIES OF A BLOCK

@@ -2,24 +2,24 @@
 use mathlib.Core.Path.{_≡_, refl, sym, ap, subst, _∙_}
 use mathlib.Core.Bool.{Bool, true, false, cond, _&&_}
 use mathlib.Core.List.{List, [], _∷_, _++_}
-use mathlib.Core.Option.{Option, none, some}
+use mathlib.Core.Option.{none, some}
 use mathlib.Core.Logic.{inl, inr}
-use Prim.Native.Nat.{ℕ, zero, suc, _+_, _-_, _≤_, _<_}
+use Prim.Native.Nat.{ℕ, zero, suc, _+_, _-_, _≤_}
 use native.Mathlib.Omega.{arith}
 use native.Mathlib.Numerals.{add-one}
 use lib.Dec.{eqb, leb}
 use lib.ListN.{length, getD, take}
 use Rattle.std.proofs.shelf.Lists.{take-all}
-use Rattle.std.proofs.shelf.Tests.{and-parts, and-from, and-left, eqb-true, le-leb, lt-leb, cond-true, cond-false, cases-bool}
+use Rattle.std.proofs.shelf.Tests.{and-parts, and-left, eqb-true, le-leb, lt-leb, cond-true, cond-false, cases-bool}
 use Rattle.raft_log.specs.Layout.{memory-words}
 use Rattle.raft_log.specs.Values.{value-at, value-put}
-use Rattle.raft_log.specs.Entries.{last-index, term-at, number-at, values, last-is-empty, entry-pushed, value-fits, value-appended, empty-place, empty-fits, empty-appended}
+use Rattle.raft_log.specs.Entries.{last-index, number-at, values, last-is-empty, entry-pushed, value-fits, value-appended, empty-place, empty-fits, empty-appended}
 use Rattle.raft_log.specs.Block.{Entry}
-use Rattle.raft_log.specs.View.{entry, content-between, entry-of, entries-of, log-of, Rises, Tidy-entries, Tidy, no-entry, is-none, renew-place, renewed}
+use Rattle.raft_log.specs.View.{entry, content-between, log-of, Tidy-entries, Tidy, no-entry, is-none, renew-place, renewed}
 use Rattle.raft_log.proofs.ValueLaws.{Bytes, length-value-put, value-put-before, value-put-other, value-put-same}
-use Rattle.raft_log.proofs.LogLaws.{last-most, number-most}
+use Rattle.raft_log.proofs.LogLaws.{number-most}
 use Rattle.raft_log.proofs.AppendLaws.{put-last, put-numbers, fits-short, fits-entry, fits-value, appended-header, appended-last, empty-header, empty-last, empty-room}
-use Rattle.raft_log.proofs.ViewLaws.{content-none, content-some, length-log, log-at, number-up}
+use Rattle.raft_log.proofs.ViewLaws.{content-none, content-some, length-log, log-at}
 use Rattle.raft_log.proofs.LogChanges.{rows-tidy, rows-entries, log-is, pushed-log, pushed-tidy}
 
 -- A VALUE IS PUT INTO A SLOT that no entry has

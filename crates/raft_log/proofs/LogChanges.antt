@@ -1,26 +1,23 @@
 -- What each change of a memory makes of the log that it stands for.
-use mathlib.Core.Path.{_≡_, refl, sym, ap, subst, _∙_}
-use mathlib.Core.Bool.{Bool, true, false, cond, _&&_}
-use mathlib.Core.List.{List, [], _∷_, _++_, map}
-use mathlib.Core.Option.{Option, none, some}
+use mathlib.Core.Path.{_≡_, refl, sym, ap, _∙_}
+use mathlib.Core.List.{List, [], _∷_, _++_}
+use mathlib.Core.Option.{some}
 use mathlib.Core.Logic.{_≢_, inl, inr}
-use Prim.Native.Nat.{ℕ, zero, suc, _+_, _-_, _*_, _≤_, _<_}
+use Prim.Native.Nat.{ℕ, zero, suc, _+_, _-_, _≤_, _<_}
 use native.Mathlib.Omega.{arith}
-use native.Mathlib.Numerals.{add-one}
-use lib.Dec.{eqb, leb, ltb}
+use lib.Dec.{leb, ltb}
 use lib.ListN.{length, getD, set, take}
-use Rattle.std.proofs.shelf.Lists.{length-set, getD-set-same, getD-set-other, take-all}
-use Rattle.std.proofs.shelf.Tests.{eq-eqb, ne-eqb, eqb-true, ltb-true, leb-true, and-parts, cond-true, cond-false, cond-both, cases-bool, cases-eq, cases-lt, cases-order}
-use Rattle.raft_log.specs.Layout.{memory-words, at-most, entry-row, value-row}
-use Rattle.raft_log.specs.Values.{value-at, value-put}
-use Rattle.raft_log.specs.Entries.{last-index, commit-index, term-at, number-at, values, last-is-empty, entry-put, entry-pushed, value-fits, value-appended, empty-place, empty-fits, empty-appended, commit-rises, commit-raised, applied-set}
-use Rattle.raft_log.specs.Block.{Entry}
+use Rattle.std.proofs.shelf.Lists.{length-set, getD-set-same, getD-set-other}
+use Rattle.std.proofs.shelf.Tests.{leb-true, and-parts, cond-both, cases-eq}
+use Rattle.raft_log.specs.Layout.{memory-words, at-most, entry-row}
+use Rattle.raft_log.specs.Values.{value-at}
+use Rattle.raft_log.specs.Entries.{last-index, commit-index, term-at, number-at, values, entry-put, entry-pushed, commit-rises, commit-raised, applied-set}
 use Rattle.raft_log.specs.Accept.{truncated}
-use Rattle.raft_log.specs.View.{entry, content-between, entry-of, entries-of, log-of, Rises, Tidy-entries, Tidy, no-entry, is-none, renew-place, renewed}
-use Rattle.raft_log.proofs.ValueLaws.{at-most-same, Bytes, value-alike, length-value-put, value-put-before, value-put-other, value-put-same}
-use Rattle.raft_log.proofs.LogLaws.{Same-entries, same-entries, last-most, number-most, commit-raised-entries, commit-raised-other, length-commit-raised, applied-set-entries, applied-set-other, length-applied-set}
-use Rattle.raft_log.proofs.AppendLaws.{term-in, number-in, number-none, term-none, length-pushed, pushed-other, pushed-last, pushed-term, pushed-number, pushed-terms, pushed-numbers, pushed-held, fits-short, fits-entry, fits-value, empty-some, empty-room}
-use Rattle.raft_log.proofs.ViewLaws.{content-none, content-some, entries-alike, entries-more, length-log, log-at, take-log, number-up}
+use Rattle.raft_log.specs.View.{entry, content-between, entry-of, entries-of, log-of, Rises, Tidy-entries, Tidy}
+use Rattle.raft_log.proofs.ValueLaws.{at-most-same, value-alike}
+use Rattle.raft_log.proofs.LogLaws.{Same-entries, same-entries, last-most, commit-raised-entries, commit-raised-other, length-commit-raised, applied-set-entries, applied-set-other, length-applied-set}
+use Rattle.raft_log.proofs.AppendLaws.{term-in, number-in, number-none, term-none, length-pushed, pushed-other, pushed-last, pushed-term, pushed-number, pushed-terms, pushed-numbers, pushed-held}
+use Rattle.raft_log.proofs.ViewLaws.{content-none, content-some, entries-alike, entries-more, take-log, number-up}
 
 -- two entries are the same by their term, their numbers and the value in their slot
 pub entry-alike :

@@ -1,6 +1,6 @@
 -- Where a log is cut for the entries of an append, in memory and as a list.
 use mathlib.Core.Path.{_≡_, refl, sym, ap, _∙_}
-use mathlib.Core.Bool.{Bool, true, false, cond, _&&_}
+use mathlib.Core.Bool.{true, false, cond, _&&_}
 use mathlib.Core.List.{List, [], _∷_, _++_}
 use mathlib.Core.Logic.{inl, inr}
 use Prim.Native.Nat.{ℕ, zero, suc, _+_, _-_, _≤_, _<_, min}
@@ -17,10 +17,10 @@ use Rattle.raft_log.specs.Layout.{at-most}
 use Rattle.raft_log.specs.Entries.{last-index}
 use Rattle.raft_log.specs.Block.{Entry}
 use Rattle.raft_log.specs.View.{log-of, no-entry, term-before}
-use Rattle.raft_log.specs.Conflict.{has-term, conflict, conflict-by-term, has-entries, spliced, merge}
+use Rattle.raft_log.specs.Conflict.{has-term, conflict, conflict-by-term, has-entries, spliced, Agreeing, merge}
 use Rattle.raft_log.specs.Accept.{truncated, entries-taken, entries-fit, merges-at, merged-at, merges, merged, hint}
 use Rattle.raft_log.proofs.ViewLaws.{length-log}
-use Rattle.raft_log.proofs.ConflictLaws.{has-term-within, conflict-none, conflict-on, conflict-here, Within, conflict-within}
+use Rattle.raft_log.proofs.ConflictLaws.{has-term-within, conflict-none, conflict-on, conflict-here, conflict-within}
 
 pub prev-within : (m : List ℕ) (p q : ℕ) → has-term (log-of m) p q ≡ true → p ≤ last-index m
 prev-within m p q h = omega (arith, has-term-within (log-of m) p q h, length-log m)
@@ -43,9 +43,6 @@ module _ (m : List ℕ) (p : ℕ) (es : List Entry) where
   merged-some c e = ap (merged-at m p es) e
 
 -- WHERE EQUAL TERMS MEAN EQUAL ENTRIES it does not matter where the log is cut
-abbrev pub Agreeing : List Entry → ℕ → List Entry → Type 0
-Agreeing l p es = (i : ℕ) → i < length es → p + i < length l → getD l (p + i) no-entry .term ≡ getD es i no-entry .term → getD l (p + i) no-entry ≡ getD es i no-entry
-
 agreeing-rest : (l : List Entry) (p : ℕ) (e : Entry) (es : List Entry) → Agreeing l p (e ∷ es) → Agreeing l (suc p) es
 agreeing-rest l p e es a i b h t =
     let q : p + suc i ≡ suc p + i = omega arith in

@@ -1,24 +1,24 @@
 -- Entries of a block that are put behind the last.
 use mathlib.Core.Path.{_≡_, refl, sym, ap, subst, _∙_}
-use mathlib.Core.Bool.{Bool, true, false, cond, _&&_}
-use mathlib.Core.List.{List, [], _∷_, _++_}
+use mathlib.Core.Bool.{true, cond, _&&_}
+use mathlib.Core.List.{List, [], _∷_}
 use mathlib.Core.Option.{Option, none, some}
-use mathlib.Core.Logic.{_≢_, inl, inr}
+use mathlib.Core.Logic.{_≢_}
 use Prim.Native.Nat.{ℕ, zero, suc, _+_, _-_, _*_, _≤_, _<_}
 use native.Mathlib.Omega.{arith}
 use lib.Dec.{eqb, leb, ltb}
-use lib.ListN.{length, getD, take, drop}
-use Rattle.std.proofs.shelf.Lists.{drop-all, length-take, length-drop, length-take-le}
-use Rattle.std.proofs.shelf.Tests.{leb-true, le-leb, lt-ltb, and-parts, and-from, cond-true, cond-false, eq-eqb, ne-eqb}
+use lib.ListN.{length, take, drop}
+use Rattle.std.proofs.shelf.Lists.{drop-all, length-drop, length-take-le}
+use Rattle.std.proofs.shelf.Tests.{leb-true, le-leb, lt-ltb, and-parts, and-from, cond-false, ne-eqb}
 use Rattle.raft_log.specs.Layout.{memory-words}
 use Rattle.raft_log.specs.Values.{value-put}
 use Rattle.raft_log.specs.Entries.{last-index, number-at, values, entry-pushed, value-fits, value-appended}
 use Rattle.raft_log.specs.Block.{Entry, row-term, row-code, row-length, value-offset, content-of, block-entry, block-entries, block-fits}
 use Rattle.raft_log.specs.View.{with-content, decisions}
 use Rattle.raft_log.specs.Accept.{truncated, content-taken, entry-taken, entries-taken, entries-fit}
-use Rattle.raft_log.proofs.LogLaws.{last-most, number-most}
+use Rattle.raft_log.proofs.LogLaws.{number-most}
 use Rattle.raft_log.proofs.AppendLaws.{length-pushed, pushed-last, pushed-values, length-appended, appended-last, appended-values}
-use Rattle.raft_log.proofs.BlockReads.{Fits, fits}
+use Rattle.raft_log.proofs.BlockReads.{fits}
 use Rattle.raft_log.proofs.ConflictLaws.{length-block-entries, block-entries-from}
 use Rattle.raft_log.proofs.LogChanges.{truncated-last, truncated-values}
 

@@ -1,25 +1,22 @@
 -- The log that a memory stands for, read entry by entry.
-use mathlib.Core.Path.{_≡_, refl, sym, ap, subst, _∙_}
-use mathlib.Core.Bool.{Bool, true, false, cond}
+use mathlib.Core.Path.{_≡_, refl, sym, ap, _∙_}
 use mathlib.Core.List.{List, [], _∷_, _++_, map}
-use mathlib.Core.Option.{Option, none, some}
-use mathlib.Core.Logic.{_≢_, inl, inr}
-use Prim.Native.Nat.{ℕ, zero, suc, _+_, _-_, _*_, _≤_, _<_}
+use mathlib.Core.Option.{none, some}
+use mathlib.Core.Logic.{inl, inr}
+use Prim.Native.Nat.{ℕ, zero, suc, _+_, _-_, _≤_, _<_}
 use native.Mathlib.Omega.{arith}
 use native.Mathlib.Numerals.{add-one}
-use lib.Dec.{eqb, leb, ltb}
+use lib.Dec.{eqb, leb}
 use lib.ListN.{length, getD, take, drop}
 use Rattle.std.specs.Iters.{counting}
 use Rattle.std.proofs.shelf.Lists.{ext-getD, getD-past, getD-take, getD-drop, length-take-le, length-drop, append-nil}
 use Rattle.std.proofs.shelf.Counted.{length-map-counting, getD-map-counting, take-map-counting, map-counting-more}
-use Rattle.std.proofs.shelf.Tests.{eq-eqb, ne-eqb, eqb-true, eqb-false, lt-leb, and-right, cond-true, cond-false, cond-both, cases-bool, cases-eq, cases-lt}
-use Rattle.raft_log.specs.Layout.{memory-words, at-most, entry-row}
+use Rattle.std.proofs.shelf.Tests.{eq-eqb, ne-eqb, lt-leb, and-right, cond-true, cond-false, cases-eq, cases-lt}
+use Rattle.raft_log.specs.Layout.{entry-row}
 use Rattle.raft_log.specs.Values.{value-at}
 use Rattle.raft_log.specs.Entries.{last-index, in-log, term-at, number-at}
 use Rattle.raft_log.specs.Block.{Entry, log-entry, log-entries}
-use Rattle.raft_log.specs.View.{entry, content-between, entry-of, entries-of, log-of, Rises, Tidy-entries, Tidy, no-entry, term-before, with-content, decisions}
-use Rattle.raft_log.proofs.ValueLaws.{at-most-same}
-use Rattle.raft_log.proofs.LogLaws.{last-most, number-most}
+use Rattle.raft_log.specs.View.{content-between, entry-of, entries-of, log-of, Rises, Tidy-entries, no-entry, term-before, with-content, decisions}
 
 -- WHAT AN ENTRY HOLDS
 pub content-none : (m : List ℕ) (a b : ℕ) → b ≡ a → content-between m a b ≡ none

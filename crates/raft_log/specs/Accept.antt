@@ -1,9 +1,8 @@
 -- What a follower does with an append: entries es for the places behind index p, where the sender has term q, of which k are decided.
 use mathlib.Core.Path.{_≡_}
-use mathlib.Core.Bool.{Bool, true, false, cond, _&&_}
+use mathlib.Core.Bool.{Bool, true, false, _&&_}
 use mathlib.Core.List.{List, [], _∷_}
-use mathlib.Core.Option.{none, some}
-use mathlib.Core.Option.{Option as Content}
+use mathlib.Core.Option.{Option as Content, none, some}
 use Prim.Native.Nat.{ℕ, _+_, _-_, max}
 use lib.Dec.{leb}
 use lib.ListN.{length, set, drop}
@@ -14,7 +13,7 @@ use Rattle.std.specs.declared.result.Result.the-variants.{Ok, Err}
 use Rattle.raft_log.specs.declared.Index.{Index}
 use Rattle.raft_log.specs.declared.accept.Refused.{Refused}
 use Rattle.raft_log.specs.Layout.{at-most}
-use Rattle.raft_log.specs.Entries.{last-index, commit-index, number-at, values, entry-pushed, value-appended, index}
+use Rattle.raft_log.specs.Entries.{last-index, commit-index, values, entry-pushed, value-appended, index}
 use Rattle.raft_log.specs.Block.{Entry}
 use Rattle.raft_log.specs.View.{log-of, decisions}
 use Rattle.raft_log.specs.Conflict.{has-term, conflict, conflict-by-term}

@@ -1,11 +1,15 @@
 -- Numbers as bytes, the low byte first, and bytes put over others.
 use mathlib.Core.List.{List, [], _∷_, _++_}
-use Prim.Native.Nat.{ℕ, _+_, _*_, _/_, _%_, _<_}
+use Prim.Native.Nat.{ℕ, _+_, _*_, _/_, _%_, _^_, _<_}
 use lib.ListN.{length, getD, take, drop}
 
 -- every element of a row is a byte
 abbrev pub Bytes : List ℕ → Type 0
 Bytes bs = (i : ℕ) → getD bs i 0 < 256
+
+-- every element of a row is a word
+abbrev pub Words : List ℕ → Type 0
+Words ws = (i : ℕ) → getD ws i 0 < 2 ^ 64
 
 -- a number below 2 ^ 64 as eight bytes
 abbrev pub eight : ℕ → List ℕ

@@ -1,15 +1,16 @@
 -- Where two logs part, and which of them is further. A log is a list of entries; index 0 is before the first and has term 0.
-use mathlib.Core.Bool.{Bool, true, false, cond, _&&_, _||_}
+use mathlib.Core.Path.{_≡_}
+use mathlib.Core.Bool.{Bool, true, cond, _&&_, _||_}
 use mathlib.Core.List.{List, [], _∷_, _++_}
-use Prim.Native.Nat.{ℕ, zero, suc, _-_}
+use Prim.Native.Nat.{ℕ, zero, suc, _+_, _-_, _<_}
 use lib.Dec.{eqb, leb, ltb}
-use lib.ListN.{length, take, drop}
+use lib.ListN.{length, getD, take, drop}
 use Rattle.std.specs.declared.option.Option.{Option}
 use Rattle.std.specs.declared.option.Option.the-variants.{Some, None}
 use Rattle.raft_log.specs.declared.Index.{Index}
 use Rattle.raft_log.specs.Entries.{index}
 use Rattle.raft_log.specs.Block.{Entry}
-use Rattle.raft_log.specs.View.{term-before}
+use Rattle.raft_log.specs.View.{no-entry, term-before}
 
 -- has the log l index i, with term t?
 unfoldable pub has-term : List Entry → ℕ → ℕ → Bool
@@ -43,6 +44,10 @@ abbrev pub spliced : List Entry → ℕ → List Entry → Option Index → List
 spliced l p es None = l
 spliced l p es (Some c) = take (c .0 - 1) l ++ drop (c .0 - 1 - p) es
 
--- the same where equal terms mean equal entries: l if it has them all, or else es behind its first p
+-- the entries es behind p are those of l wherever the terms are equal, as in logs of one cluster
+abbrev pub Agreeing : List Entry → ℕ → List Entry → Type 0
+Agreeing l p es = (i : ℕ) → i < length es → p + i < length l → getD l (p + i) no-entry .term ≡ getD es i no-entry .term → getD l (p + i) no-entry ≡ getD es i no-entry
+
+-- l with es behind p where they agree so: l if it has them all, or else es behind its first p
 unfoldable pub merge : List Entry → ℕ → List Entry → List Entry
 merge l p es = cond (has-entries l p es) l (take p l ++ es)

@@ -7,3 +7,4 @@ pub mod View
 pub mod Conflict
 pub mod Accept
 pub mod LogCases
+pub mod Theorems

@@ -79,3 +79,11 @@ with-content (some v) vs = v ∷ vs
 unfoldable pub decisions : List Entry → List (List ℕ)
 decisions [] = []
 decisions (e ∷ es) = with-content (e .content) (decisions es)
+
+-- what a memory can hold: a value of up to 256 bytes, or none
+abbrev pub Valid-content : Option (List ℕ) → Type 0
+Valid-content none = Unit {0}
+Valid-content (some v) = (length v ≤ 256) × ((i : ℕ) → getD v i 0 < 256)
+
+abbrev pub Valid : List Entry → Type 0
+Valid es = (j : ℕ) → j < length es → Valid-content (getD es j no-entry .content)

@@ -150,7 +150,7 @@ fn refusal(memory: &[u64], prev: Index, prev_term: Term) -> Refused
     }
 }
 
-/// Takes a leader's entries for the places behind `prev`, of which the first `commit` of the log are decided, and says up to where the logs agree. Refused, and nothing changed, where the log lacks `prev` with its term, or has no room.
+/// Takes a leader's entries for the places behind `prev`; the first `commit` entries of the leader's log are decided. Says up to where the logs agree. Refused, and nothing changed, where this log lacks `prev` with its term or has no room.
 pub fn maybe_append(
     memory: &mut [u64],
     prev: Index,

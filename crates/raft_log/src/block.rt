@@ -19,7 +19,7 @@ const MAX_CODE: u16 = 257;
 
 /// The term of entry `i`, from 0.
 pub fn entry_term(block: &[u8], i: usize) -> Term
-    requires { ⌜ i < 15 ⌝ ∗ ⌜ 10 * i + 10 ≤ length (now block) ⌝ }
+    requires { ⌜ 10 * i + 10 ≤ length (now block) ⌝ }
     ensures { λ r. ⌜ r .0 ≡ row-term (now (block .entry)) i ⌝ }
 {
     Term(get_u64(block, ROW_BYTES * i))
@@ -27,7 +27,7 @@ pub fn entry_term(block: &[u8], i: usize) -> Term
 
 /// 0 for an empty entry, or else one more than its value's length.
 pub fn entry_code(block: &[u8], i: usize) -> u16
-    requires { ⌜ i < 15 ⌝ ∗ ⌜ 10 * i + 10 ≤ length (now block) ⌝ }
+    requires { ⌜ 10 * i + 10 ≤ length (now block) ⌝ }
     ensures { λ r. ⌜ r ≡ row-code (now (block .entry)) i ⌝ }
 {
     get_u16(block, ROW_BYTES * i + CODE)
@@ -35,7 +35,7 @@ pub fn entry_code(block: &[u8], i: usize) -> u16
 
 /// How many bytes the value of entry `i` has.
 pub fn entry_length(block: &[u8], i: usize) -> usize
-    requires { ⌜ i < 15 ⌝ ∗ ⌜ 10 * i + 10 ≤ length (now block) ⌝ }
+    requires { ⌜ 10 * i + 10 ≤ length (now block) ⌝ }
     ensures is { λ r. ⌜ r ≡ row-length (now (block .entry)) i ⌝ }
     ensures short { λ r. ⌜ r < 65536 ⌝ }
 {

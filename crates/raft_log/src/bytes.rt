@@ -1,7 +1,7 @@
 //! Numbers as bytes at a place of a row, the low byte first.
 ghost use mathlib.Core.Path.{_≡_};
 ghost use Prim.Native.Nat.{_+_, _≤_};
-ghost use lib.ListN.{length, take};
+ghost use lib.ListN.{length};
 ghost use Rattle.raft_log.specs.Bytes.{eight, two, word-at, pair-at, laid};
 
 /// Puts a number over the eight bytes from `at` on.

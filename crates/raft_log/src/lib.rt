@@ -8,6 +8,7 @@ pub mod cases;
 pub mod conflict;
 pub mod entries;
 pub mod layout;
+pub mod theorems;
 pub mod values;
 
 /// A term: a time in which at most one machine leads.

@@ -1,7 +1,6 @@
 use mathlib.Core.Path.{_≡_}
 use mathlib.Core.Bool.{true}
-use lib.ListN.{length, drop}
-use Rattle.raft_log.specs.Layout.{memory-words}
+use lib.ListN.{drop}
 use Rattle.raft_log.specs.Block.{block-entries}
 use Rattle.raft_log.specs.Accept.{entries-taken, entries-fit}
 use Rattle.raft_log.proofs.accept.append_entries.Given as given

@@ -1,9 +1,5 @@
-use mathlib.Core.Path.{_≡_, refl, sym, _∙_}
-use Prim.Native.Nat.{_-_, _≤_, _<_}
+use mathlib.Core.Path.{refl, sym, _∙_}
 use native.Mathlib.Omega.{arith}
-use lib.ListN.{length}
-use Rattle.raft_log.specs.Layout.{memory-words}
-use Rattle.raft_log.specs.Entries.{last-index}
 use Rattle.raft_log.specs.Block.{block-entries}
 use Rattle.raft_log.specs.View.{log-of}
 use Rattle.raft_log.proofs.LogLaws.{last-most}

@@ -1,4 +1,3 @@
-use mathlib.Core.Path.{sym}
 use native.Mathlib.Omega.{arith}
 use Rattle.raft_log.specs.Block.{log-entry}
 use Rattle.raft_log.proofs.BlockWrites.{row-put}

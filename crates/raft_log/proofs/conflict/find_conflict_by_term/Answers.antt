@@ -1,10 +1,7 @@
-use mathlib.Core.Path.{_≡_, refl, sym, ap, _∙_}
+use mathlib.Core.Path.{_≡_, sym, _∙_}
 use Prim.Native.Nat.{_≤_, _<_}
 use native.Mathlib.Omega.{arith}
-use lib.ListN.{length}
-use Rattle.raft_log.specs.Layout.{at-most}
 use Rattle.raft_log.specs.View.{log-of, term-before}
-use Rattle.raft_log.specs.Conflict.{conflict-by-term}
 use Rattle.raft_log.proofs.ViewLaws.{length-log, log-term}
 use Rattle.raft_log.proofs.ConflictLaws.{by-term-here, by-term-below}
 use Rattle.raft_log.proofs.conflict.find_conflict_by_term.Needs as need
