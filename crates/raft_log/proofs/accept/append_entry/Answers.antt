@@ -8,10 +8,10 @@ use Rattle.raft_log.proofs.TakeLaws.{row-there, value-cut, value-cut-short, bl
 use Rattle.raft_log.proofs.accept.append_entry.Needs as need
 
 pub entry-term-term-requires : need.entry-term-term-requires
-entry-term-term-requires c κs = row-there (c .args .block .now) (c .args .count) (c .args .i) (c .pre .1 .0) (c .pre .1 .1)
+entry-term-term-requires c κs = row-there (c .args .block .now) (c .args .count) (c .args .i) (c .pre .1 .0) (c .pre .1 .1) .1
 
 pub entry-code-requires : need.entry-code-requires
-entry-code-requires c κs = row-there (c .args .block .now) (c .args .count) (c .args .i) (c .pre .1 .0) (c .pre .1 .1)
+entry-code-requires c κs = row-there (c .args .block .now) (c .args .count) (c .args .i) (c .pre .1 .0) (c .pre .1 .1) .1
 
 pub push-entry-requires : need.push-entry-requires
 push-entry-requires c κs =
@@ -26,7 +26,7 @@ pub value-offset-start-requires : need.value-offset-start-requires
 value-offset-start-requires c κs = let f = fits (c .args .block .now) (c .args .count) (c .pre .1 .0) in (f .few, (f .table, omega (arith, c .pre .1 .1)))
 
 pub entry-length-requires : need.entry-length-requires
-entry-length-requires c κs = row-there (c .args .block .now) (c .args .count) (c .args .i) (c .pre .1 .0) (c .pre .1 .1)
+entry-length-requires c κs = row-there (c .args .block .now) (c .args .count) (c .args .i) (c .pre .1 .0) (c .pre .1 .1) .1
 
 pub write-value-requires : need.write-value-requires
 write-value-requires c κs =

@@ -18,7 +18,7 @@ add-index-in-loop-i c = omega (arith, fits (c .args .block .now) (c .args .count
 pub entry-term-requires : need.entry-term-requires
 entry-term-requires c κs =
     let f = fits (c .args .block .now) (c .args .count) (c .pre .1 .1) in
-    (omega (arith, f .few), omega (arith, f .table))
+    omega (arith, f .table)
 
 pub returns-then-not-match-term : need.returns-then-not-match-term
 returns-then-not-match-term c =
