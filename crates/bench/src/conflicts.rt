@@ -19,19 +19,21 @@ use std::alloc::Global;
 const ENTRIES: u64 = 8000;
 // As many as agree; they are whole blocks.
 const AGREEING: u64 = 7995;
+// One more block than agrees.
+const BLOCKS: u64 = 534;
 
-const BLOCKS: u64 = 533;
+const BLOCK_ENTRIES: u64 = MAX_BLOCK_ENTRIES as u64;
 
 const BLOCK_ROOM: usize = 4096;
 
 const VALUE: [u8; 16] = [7; 16];
 
-// Entries with a value and empty ones in turn, the agreeing ones of term 1 and the others of term 2.
-fn fill(memory: &mut [u64])
+// Entries with a value and empty ones in turn, as many as agree of term 1.
+fn fill(memory: &mut [u64], entries: u64, rest: Term)
     requires { ⌜ length (now memory) ≡ memory-words ⌝ }
 {
-    for i in 0..ENTRIES {
-        let term = Term(if i < AGREEING { 1 } else { 2 });
+    for i in 0..entries {
+        let term = if i < AGREEING { Term(1) } else { rest };
         let _ = if i % 2 == 0 {
             append_value(memory, term, &VALUE)
         } else {
@@ -40,27 +42,49 @@ fn fill(memory: &mut [u64])
     }
 }
 
+// The blocks of a log that is of term 1 throughout.
+fn blocks(heap: Global) -> Result<Vec<Vec<u8>>, AllocError> {
+    let mut memory = vec![in heap; 0; MEMORY_WORDS]?;
+    fill(&mut memory, BLOCKS * BLOCK_ENTRIES, Term(1));
+    let mut blocks = Vec::new(heap);
+    for i in 0..BLOCKS {
+        let mut block = vec![in heap; 0; BLOCK_ROOM]?;
+        let first = Index(i * BLOCK_ENTRIES + 1);
+        let end = write_block(&memory, first, MAX_BLOCK_ENTRIES, &mut block, 0);
+        block.truncate(end);
+        blocks.push(block)?;
+    }
+    Ok(blocks)
+}
+
+// Where the log and a block behind `prev` part; the block is checked first, as that of a letter is.
+fn parts_at(memory: &[u64], prev: u64, block: &[u8]) -> Option<Index>
+    requires { ⌜ length (now memory) ≡ memory-words ⌝ }
+{
+    if prev > ENTRIES || !is_valid_block(block, MAX_BLOCK_ENTRIES) {
+        return None;
+    }
+    find_conflict(memory, Index(prev), block, MAX_BLOCK_ENTRIES)
+}
+
 #[derive(Drop)]
 pub struct Conflict {
     memory: Vec<u64>,
-    // Entries of term 1, so it agrees with every stretch of the log that does.
-    block: Vec<u8>,
+    blocks: Vec<Vec<u8>>,
 }
 
 impl Conflict {
     pub fn new(heap: Global) -> Result<Conflict, AllocError> {
         let mut memory = vec![in heap; 0; MEMORY_WORDS]?;
-        fill(&mut memory);
-        let mut block = vec![in heap; 0; BLOCK_ROOM]?;
-        let end = write_block(&memory, Index(1), MAX_BLOCK_ENTRIES, &mut block, 0);
-        block.truncate(end);
-        Ok(Conflict { memory, block })
+        fill(&mut memory, ENTRIES, Term(2));
+        let blocks = blocks(heap)?;
+        Ok(Conflict { memory, blocks })
     }
 }
 
 pub impl Work for Conflict as ConflictWork {
     fn name(&self) -> &'static str {
-        "compare an entry of 8,000 with one of a block"
+        "compare an entry of 8,000 with one of a checked block"
     }
 
     fn operations(&self) -> u64 {
@@ -69,15 +93,15 @@ pub impl Work for Conflict as ConflictWork {
 
     fn round(&mut self) -> u64 {
         let memory: &[u64] = &self.memory;
-        let block: &[u8] = &self.block;
-        if memory.len() != MEMORY_WORDS || !is_valid_block(block, MAX_BLOCK_ENTRIES) {
+        if memory.len() != MEMORY_WORDS {
             return 0;
         }
-        for i in 0..BLOCKS + 1 {
-            let prev = Index(i * MAX_BLOCK_ENTRIES as u64);
-            if let Some(conflict) = find_conflict(memory, prev, block, MAX_BLOCK_ENTRIES) {
-                return conflict.0;
+        let mut prev = 0u64;
+        for block in self.blocks.iter() {
+            if let Some(index) = parts_at(memory, prev, block) {
+                return index.0;
             }
+            prev = prev.saturating_add(BLOCK_ENTRIES);
         }
         0
     }
@@ -91,7 +115,7 @@ pub struct Hint {
 impl Hint {
     pub fn new(heap: Global) -> Result<Hint, AllocError> {
         let mut memory = vec![in heap; 0; MEMORY_WORDS]?;
-        fill(&mut memory);
+        fill(&mut memory, ENTRIES, Term(2));
         Ok(Hint { memory })
     }
 }

@@ -4,14 +4,18 @@ ghost use Prim.Native.Nat.{_≤_};
 ghost use lib.ListN.{length};
 ghost use Rattle.raft_log.specs.Layout.{memory-words};
 use crate::timing::Work;
+use messages::BLOCK_AT;
 use messages::MAX_LETTER_BYTES;
 use messages::Message;
 use messages::decoder::decode;
 use messages::encoder::encode;
 use raft_log::Index;
 use raft_log::Term;
+use raft_log::accept::maybe_append;
 use raft_log::block::MAX_BLOCK_ENTRIES;
+use raft_log::block::is_valid_block;
 use raft_log::entries::append_value;
+use raft_log::layout::LAST_INDEX;
 use raft_log::layout::MEMORY_WORDS;
 use std::alloc::AllocError;
 use std::alloc::Global;
@@ -19,6 +23,8 @@ use std::alloc::Global;
 const VALUE: [u8; 256] = [7; 256];
 
 const OPERATIONS: u64 = 1000;
+// So many letters are decoded in turn.
+const LETTERS: u64 = 8;
 /// 34 bytes of numbers, 15 rows of 10 bytes, 15 values of 256.
 const LETTER_BYTES: usize = 4024;
 // The low byte of a letter's term, behind its kind.
@@ -88,36 +94,38 @@ pub impl Work for Encode as EncodeWork {
     }
 }
 
-#[derive(Drop)]
-pub struct Decode {
-    letter: Vec<u8>,
-}
-
 /// The bytes of a full letter.
-fn letter(heap: Global) -> Result<Vec<u8>, AllocError> {
+fn letter(heap: Global, term: u64) -> Result<Vec<u8>, AllocError> {
     let mut memory = vec![in heap; 0; MEMORY_WORDS]?;
     fill(&mut memory);
     let mut out = vec![in heap; 0; MAX_LETTER_BYTES]?;
-    let end = full_append(1, &memory, &mut out);
+    let end = full_append(term, &memory, &mut out);
     out.truncate(end);
     Ok(out)
 }
 
-// Are these bytes an append of this term with all its entries?
-fn is_append(bytes: &[u8], sought: u64) -> bool {
+// Are these bytes an append with all its entries, of one of the terms in use?
+fn is_append(bytes: &[u8]) -> bool {
     match decode(bytes) {
         Some(Message::Append { term, count, .. }) => {
-            term.0 == sought && count == MAX_BLOCK_ENTRIES
+            term.0 < LETTERS && count == MAX_BLOCK_ENTRIES
         }
         _ => false,
     }
 }
 
+#[derive(Drop)]
+pub struct Decode {
+    letters: Vec<Vec<u8>>,
+}
+
 impl Decode {
     pub fn new(heap: Global) -> Result<Decode, AllocError> {
-        Ok(Decode {
-            letter: letter(heap)?,
-        })
+        let mut letters = Vec::new(heap);
+        for term in 0..LETTERS {
+            letters.push(letter(heap, term)?)?;
+        }
+        Ok(Decode { letters })
     }
 }
 
@@ -131,14 +139,11 @@ pub impl Work for Decode as DecodeWork {
     }
 
     fn round(&mut self) -> u64 {
-        let letter: &mut [u8] = &mut self.letter;
-        if letter.len() != LETTER_BYTES {
-            return 0;
-        }
         let mut right = 0u64;
-        for i in 0..OPERATIONS {
-            letter[TERM_AT] = (i % 256) as u8;
-            right = right.saturating_add(u64::from(is_append(letter, i % 256)));
+        for _ in 0..OPERATIONS / LETTERS {
+            for letter in self.letters.iter() {
+                right = right.saturating_add(u64::from(is_append(letter)));
+            }
         }
         right
     }
@@ -153,8 +158,8 @@ pub struct Copying {
 impl Copying {
     pub fn new(heap: Global) -> Result<Copying, AllocError> {
         Ok(Copying {
-            from: letter(heap)?,
-            to: letter(heap)?,
+            from: letter(heap, 1)?,
+            to: letter(heap, 1)?,
         })
     }
 }
@@ -180,6 +185,57 @@ pub impl Work for Copying as CopyingWork {
             to.copy_from_slice(from);
             let is_right = u64::from(to[TERM_AT]) == i % 256 && to[LETTER_BYTES - 1] == 7;
             right = right.saturating_add(u64::from(is_right));
+        }
+        right
+    }
+}
+
+#[derive(Drop)]
+pub struct Take {
+    memory: Vec<u64>,
+    letter: Vec<u8>,
+}
+
+impl Take {
+    pub fn new(heap: Global) -> Result<Take, AllocError> {
+        Ok(Take {
+            memory: vec![in heap; 0; MEMORY_WORDS]?,
+            letter: letter(heap, 1)?,
+        })
+    }
+}
+
+pub impl Work for Take as TakeWork {
+    fn name(&self) -> &'static str {
+        "take its entries into an empty log"
+    }
+
+    fn operations(&self) -> u64 {
+        OPERATIONS
+    }
+
+    fn round(&mut self) -> u64 {
+        let memory: &mut [u64] = &mut self.memory;
+        let letter: &[u8] = &self.letter;
+        if memory.len() != MEMORY_WORDS || letter.len() != LETTER_BYTES {
+            return 0;
+        }
+        let block = &letter[BLOCK_AT..];
+        if !is_valid_block(block, MAX_BLOCK_ENTRIES) {
+            return 0;
+        }
+        let mut right = 0u64;
+        for _ in 0..OPERATIONS {
+            memory[LAST_INDEX] = 0;
+            let taken = maybe_append(
+                memory,
+                Index(0),
+                Term(0),
+                Index(0),
+                block,
+                MAX_BLOCK_ENTRIES,
+            );
+            right = right.saturating_add(u64::from(taken.is_ok()));
         }
         right
     }

@@ -1,4 +1,4 @@
-//! Times parts of the library on large inputs: `bench run`. Figures differ from run to run, so without that word it times nothing and writes nothing to be compared.
+//! Times parts of the library on large inputs: `bench run`. Figures differ from run to run, so without that word it times nothing and prints nothing to compare.
 
 mod appends;
 mod conflicts;
@@ -14,6 +14,7 @@ use crate::halves::HalfWork;
 use crate::letters::CopyingWork;
 use crate::letters::DecodeWork;
 use crate::letters::EncodeWork;
+use crate::letters::TakeWork;
 use appends::Append;
 use appends::ReadBack;
 use conflicts::Conflict;
@@ -22,6 +23,7 @@ use halves::Half;
 use letters::Copying;
 use letters::Decode;
 use letters::Encode;
+use letters::Take;
 use std::env;
 use std::error::AnyError;
 use timing::report;
@@ -59,9 +61,11 @@ fn say_ratio(rt: &LibcRuntime, name: &str, nanos: u64, copy: u64) -> Result<(), 
 fn time_letters(rt: &LibcRuntime) -> Result<(), AnyError> {
     let encode = report(rt, &mut Encode::new(rt.alloc())?)?;
     let decode = report(rt, &mut Decode::new(rt.alloc())?)?;
+    let take = report(rt, &mut Take::new(rt.alloc())?)?;
     let copy = report(rt, &mut Copying::new(rt.alloc())?)?;
     say_ratio(rt, "encode", encode.best, copy.best)?;
-    say_ratio(rt, "decode", decode.best, copy.best)
+    say_ratio(rt, "decode", decode.best, copy.best)?;
+    say_ratio(rt, "take", take.best, copy.best)
 }
 
 fn time_halves(rt: &LibcRuntime) -> Result<(), AnyError> {
