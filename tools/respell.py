@@ -81,6 +81,19 @@ def table(top):
     return turns
 
 
+USE = re.compile(r"^[ \t]*(?:ghost )?(?:pub )?use ([^{;\n]*?)\.\{([^}]*)\}", re.M)
+
+
+def of_libraries(text, crates):
+    """The names that a file takes from a library: they keep their spelling there."""
+    kept = set()
+    for m in USE.finditer(text):
+        head = m.group(1).split(".")
+        if not (head[0] == "Rattle" and len(head) > 1 and head[1] in crates):
+            kept.update(item.split(" as ")[0].strip() for item in m.group(2).split(","))
+    return kept
+
+
 def turn(text, turns):
     return WORD.sub(lambda m: turns.get(m.group(0), m.group(0)), text)
 
@@ -118,9 +131,12 @@ def main():
         print(len(turns), "names turn")
         return
     changed = 0
+    crates = set(os.listdir(os.path.join(top, "crates")))
     for path in files(top, (".antt", ".rt", ".edit")):
         old = read(path)
-        new = turn(old, turns) if path.endswith(".antt") else turn_code(old, turns)
+        kept = of_libraries(old, crates)
+        here = {name: new for name, new in turns.items() if name not in kept}
+        new = turn(old, here) if path.endswith(".antt") else turn_code(old, here)
         if new != old:
             with open(path, "w", encoding="utf-8") as f:
                 f.write(new)

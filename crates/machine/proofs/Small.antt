@@ -1,7 +1,7 @@
 -- Logs stay small. Assumes nothing.
 use Rattle.std.proofs.Common.{◌≡◌, ℕ, suc, pred, ◌+◌, ◌*◌, ◌<◌, ◌≤◌, Bool, true, List, [], ◌∷◌, ◌++◌, length, take, sym, refl, ap, ◌∙◌, subst, inl, inr, arith}
 use mathlib.Core.Option.{none, some}
-use Rattle.std.proofs.lemmas.List.{length_append, length-take-le, get_or-take, ext_get_or, take_all}
+use Rattle.std.proofs.lemmas.List.{length-append, length-take-le, get_or-take, ext_get_or, take_all}
 use Rattle.std.proofs.lemmas.Bool.{cases_lt, cases_eq}
 use Rattle.protocol.specs.Lists.{pick, upd}
 use Rattle.protocol.specs.Log.{entry, Log, entry_at, term_at, content_at, is_none, renew_index, renew, decisions}
@@ -79,7 +79,7 @@ renew_decisions t l =
     let less : length (decisions (take (renew_index l) l)) ≤ length (decisions (take (length l) l)) =
     begins_length _ _ (decisions_take l (renew_index l) (length l) (renew_index_is l).low) in
     let e1 = ap length (decisions-++ (take (renew_index l) l) (entry t none ∷ [])) in
-    let e2 = length_append (decisions (take (renew_index l) l)) (decisions (entry t none ∷ [])) in
+    let e2 = length-append (decisions (take (renew_index l) l)) (decisions (entry t none ∷ [])) in
     let e3 : length (decisions (entry t none ∷ [])) ≡ 0 = ap (λ (x : List ℕ). length x) (decisions_empty (entry t none) [] refl ∙ decisions_none) in
     omega (arith, ap (λ (x : Log ℕ). length (decisions x)) all)
 
@@ -106,7 +106,7 @@ push_small : (room : ℕ) (l : Log ℕ) (t p : ℕ) → length (decisions l) < r
 push_small room l t p b d =
     let len = push_length l (entry t (some p)) in
     let e1 = ap length (decisions-++ l (entry t (some p) ∷ [])) in
-    let e2 = length_append (decisions l) (decisions (entry t (some p) ∷ [])) in
+    let e2 = length-append (decisions l) (decisions (entry t (some p) ∷ [])) in
     let e3 = ap length (decisions_some (entry t (some p)) [] p refl) in
     let e4 : length (decisions {A = ℕ} []) ≡ 0 = ap (λ (x : List ℕ). length x) decisions_none in
     record {

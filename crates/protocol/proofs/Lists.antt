@@ -1,6 +1,6 @@
 -- Lists of which one begins another, and what holds of all in a list. Assumes nothing.
 use Rattle.std.proofs.Common.{◌≡◌, ℕ, zero, suc, ◌<◌, ◌≤◌, List, [], ◌∷◌, ◌++◌, length, get_or, take, sym, refl, ap, ◌∙◌, subst, inl, inr, arith}
-use Rattle.std.proofs.lemmas.List.{append-nil, append_assoc, length_append, nil_from_length, get_or_append_left}
+use Rattle.std.proofs.lemmas.List.{append-nil, append_assoc, length-append, nil_from_length, get_or_append_left}
 use Rattle.protocol.specs.Lists.{In, All, Begins, Alike}
 
 -- all in a list
@@ -32,12 +32,12 @@ begins_trans {A} xs ys zs p q = (p.0 ++ q.0, sym (append_assoc xs p.0 q.0) ∙ a
 
 pub begins_length : {A : Type 0} (xs ys : List A) → Begins xs ys → length xs ≤ length ys
 unfolding Begins
-begins_length xs ys b = omega (arith, length_append xs b.0, ap length b.1)
+begins_length xs ys b = omega (arith, length-append xs b.0, ap length b.1)
 
 pub begins_shorter : {A : Type 0} (xs ys : List A) → length ys ≤ length xs → Begins xs ys → Begins ys xs
 unfolding Begins
 begins_shorter {A} xs ys b p =
-    let z : p.0 ≡ [] = nil_from_length p.0 (omega (arith, length_append xs p.0, ap length p.1)) in
+    let z : p.0 ≡ [] = nil_from_length p.0 (omega (arith, length-append xs p.0, ap length p.1)) in
     ([], append-nil ys ∙ sym p.1 ∙ ap (λ (x : List A). xs ++ x) z ∙ append-nil xs)
 
 pub begins_at : {A : Type 0} (d : A) (xs ys : List A) (i : ℕ) → i < length xs → Begins xs ys → get_or xs i d ≡ get_or ys i d

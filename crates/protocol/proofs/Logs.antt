@@ -1,7 +1,7 @@
 -- Facts on logs, whatever the entries hold. Assumes nothing.
 use Rattle.std.proofs.Common.{◌≡◌, ℕ, zero, suc, ◌<◌, ◌≤◌, true, false, [], ◌∷◌, ◌++◌, length, take, sym, refl, ap, ◌∙◌, subst, inl, inr, arith}
 use mathlib.Core.Option.{Option, none, some}
-use Rattle.std.proofs.lemmas.List.{length-take-le, get_or-take, get_or_append_left, get_or_at, length_append, ext_get_or}
+use Rattle.std.proofs.lemmas.List.{length-take-le, get_or-take, get_or_append_left, get_or_at, length-append, ext_get_or}
 use Rattle.std.proofs.lemmas.Bool.{cases_lt, both_ways}
 use Rattle.protocol.specs.Log.{Entry, entry, Log, entry_at, term_at, content_at, term_before, last_term, is_none, renew_index, renew, Covers}
 use Rattle.protocol.proofs.Updates.{pick_cases}
@@ -18,7 +18,7 @@ is_none_true (some a) e = absurd (both_ways false refl e)
 
 -- one more at the end
 pub push_length : {A : Type 0} (l : Log A) (e : Entry A) → length (l ++ e ∷ []) ≡ suc (length l)
-push_length l e = length_append l (e ∷ []) ∙ omega arith
+push_length l e = length-append l (e ∷ []) ∙ omega arith
 
 pub push_front : {A : Type 0} (l : Log A) (e : Entry A) (i : ℕ) → i < length l → entry_at (l ++ e ∷ []) i ≡ entry_at l i
 push_front l e i h = get_or_append_left l (e ∷ []) (entry 0 none) i h

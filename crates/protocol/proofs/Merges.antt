@@ -1,7 +1,7 @@
 -- What a log is after entries of the leader came. Assumes nothing.
 use Rattle.std.proofs.Common.{◌≡◌, ℕ, zero, suc, pred, ◌+◌, ◌-◌, ◌<◌, ◌≤◌, true, false, ◌&&◌, eqb, ltb, ◌⊎◌, [], ◌∷◌, ◌++◌, length, take, sym, refl, ap, ◌∙◌, subst, inl, inr, arith}
 use mathlib.Core.Option.{none}
-use Rattle.std.proofs.lemmas.List.{length-take-le, length_append, get_or-take, get_or_append_left, get_or-append_right}
+use Rattle.std.proofs.lemmas.List.{length-take-le, length-append, get_or-take, get_or_append_left, get_or-append_right}
 use Rattle.std.proofs.lemmas.Bool.{both_ways, cases_lt, cases_eq, and_parts, and_from, ltb-true, lt-ltb, eqb-true, eq-eqb}
 use Rattle.protocol.specs.Log.{entry, Log, entry_at, term_at, term_before, Covers, has_entries, merge}
 use Rattle.protocol.specs.History.{History}
@@ -70,7 +70,7 @@ module _ (g : History) (l b es : Log ℕ) (p : ℕ) (gl : Matching g l) (gb : Ma
   cut_length : length (take p l ++ es) ≡ p + length es
   cut_length =
       let el : length (take p l) ≡ p = length-take-le p l hl in
-      let ea : length (take p l ++ es) ≡ length (take p l) + length es = length_append (take p l) es in
+      let ea : length (take p l ++ es) ≡ length (take p l) + length es = length-append (take p l) es in
       omega arith
 
   cut_at : (i : ℕ) → i < p + length es → entry_at (take p l ++ es) i ≡ entry_at b i

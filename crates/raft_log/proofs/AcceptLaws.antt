@@ -1,7 +1,7 @@
 -- What an append makes of the log that a memory stands for.
 use Rattle.std.proofs.Common.{◌≡◌, ℕ, zero, suc, ◌+◌, ◌-◌, ◌<◌, ◌≤◌, min, max, true, ◌≢◌, List, [], ◌∷◌, ◌++◌, length, get_or, take, drop, Some, None, Option, sym, refl, ap, ◌∙◌, subst, inl, inr, add-one, arith}
 use mathlib.Core.Option.{Option as Content, none, some}
-use Rattle.std.proofs.lemmas.List.{append-nil, append_assoc, length_append, length-take, length-take-le, length-drop, take_all, get_or-take, get_or-drop, get_or_past, length-set, get_or-set_same, get_or-set_other}
+use Rattle.std.proofs.lemmas.List.{append-nil, append_assoc, length-append, length-take, length-take-le, length-drop, take_all, get_or-take, get_or-drop, get_or_past, length-set, get_or-set_same, get_or-set_other}
 use Rattle.std.proofs.lemmas.Bool.{and_parts, cases_lt}
 use Rattle.raft_log.specs.declared.Index.{Index}
 use Rattle.raft_log.specs.Layout.{memory_words, at_most}
@@ -129,7 +129,7 @@ module _ (m : List ℕ) (p : ℕ) (es : List Entry) (d : TidyEntries m) (v : Val
           omega (
             arith,
             ap length (merged_rewritten.log ∙ ap (spliced l p es) e),
-            length_append (take (c.0 - 1) l) (drop (c.0 - 1 - p) es),
+            length-append (take (c.0 - 1) l) (drop (c.0 - 1 - p) es),
             length-take-le (c.0 - 1) l (omega (arith, w.near (omega (arith, length_log m)))),
             length-drop (c.0 - 1 - p) es,
             w.behind,

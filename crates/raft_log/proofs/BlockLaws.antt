@@ -2,7 +2,7 @@
 use Rattle.std.proofs.Common.{◌≡◌, ℕ, zero, suc, ◌+◌, ◌-◌, ◌*◌, ◌<◌, ◌≤◌, true, ◌&&◌, eqb, leb, List, [], ◌∷◌, ◌++◌, map, length, get_or, take, drop, sym, refl, ap, ◌∙◌, arith}
 use mathlib.Core.Option.{Option, none, some}
 use Rattle.std.specs.List.{range_with_len}
-use Rattle.std.proofs.lemmas.List.{append_assoc, length_append, take-append-drop, take_at, drop_at, drop-drop, take_all, take_more, drop_more, ext_get_or}
+use Rattle.std.proofs.lemmas.List.{append_assoc, length-append, take-append-drop, take_at, drop_at, drop-drop, take_all, take_more, drop_more, ext_get_or}
 use Rattle.std.proofs.lemmas.List.FromFn.{length-map-range_with_len, get_or-map-range_with_len}
 use Rattle.std.proofs.lemmas.Bool.{le-leb, eq-eqb, and_from}
 use Rattle.raft_log.specs.Bytes.{word_at, pair_at}
@@ -86,7 +86,7 @@ module _ (es : List Entry) (f : EntriesFit es) where
         offset_back i (omega arith),
         row_length_back i (omega arith),
         ap length (values_take_more es i (omega arith)),
-        length_append (values_bytes (take i es)) (content_bytes (get_or es i no_entry).content),
+        length-append (values_bytes (take i es)) (content_bytes (get_or es i no_entry).content),
       ) in
       rw e at o
 
@@ -136,7 +136,7 @@ module _ (es : List Entry) (f : EntriesFit es) where
   pub fits_back : n ≤ 15 → block_fits bs n ≡ true
   unfolding block_fits
   fits_back few =
-      let long : length bs ≡ 10 * n + length (values_bytes es) = length_append (table_bytes es) (values_bytes es) ∙ omega (arith, length_table es) in
+      let long : length bs ≡ 10 * n + length (values_bytes es) = length-append (table_bytes es) (values_bytes es) ∙ omega (arith, length_table es) in
       let end : value_offset bs n n ≡ length bs = omega (arith, offset_back n (omega arith), ap (λ x. length (values_bytes x)) (take_all n es (omega arith))) in
       and_from (leb n 15) (leb (10 * n) (length bs) && (codes_fit bs n && eqb (value_offset bs n n) (length bs))) (le-leb n 15 few)
       (and_from (leb (10 * n) (length bs)) (codes_fit bs n && eqb (value_offset bs n n) (length bs)) (le-leb (10 * n) (length bs) (omega arith))
@@ -150,8 +150,8 @@ values_short : (es : List Entry) → EntriesFit es → length (values_bytes es) 
 unfolding values_bytes
 values_short [] f = omega arith
 values_short (e ∷ es) f =
-    omega (arith, length_append (content_bytes e.content) (values_bytes es), content_bytes_short e.content f.1, values_short es f.2)
+    omega (arith, length-append (content_bytes e.content) (values_bytes es), content_bytes_short e.content f.1, values_short es f.2)
 
 -- a block fits a letter
 pub block_short : (es : List Entry) → EntriesFit es → length (block_bytes es) ≤ 266 * length es
-block_short es f = omega (arith, length_append (table_bytes es) (values_bytes es), length_table es, values_short es f)
+block_short es f = omega (arith, length-append (table_bytes es) (values_bytes es), length_table es, values_short es f)

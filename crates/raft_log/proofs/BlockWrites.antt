@@ -2,7 +2,7 @@
 use Rattle.std.proofs.Common.{◌≡◌, ℕ, zero, suc, ◌+◌, ◌*◌, ◌/◌, ◌%◌, ◌<◌, ◌≤◌, List, [], ◌∷◌, ◌++◌, map, length, get_or, take, sym, refl, ap, ◌∙◌, add-zero, zero-add, arith}
 use mathlib.Core.Option.{Option, none, some}
 use Rattle.std.specs.List.{range_with_len}
-use Rattle.std.proofs.lemmas.List.{append_assoc, append-nil, length_append, map-append}
+use Rattle.std.proofs.lemmas.List.{append_assoc, append-nil, length-append, map-append}
 use Rattle.std.proofs.lemmas.List.FromFn.{length-map-range_with_len, take-map-range_with_len, map-range_with_len_more}
 use Rattle.raft_log.specs.Layout.{value_row}
 use Rattle.raft_log.specs.Values.{byte_in, byte_at, bytes_at, value_length, value_at}
@@ -116,7 +116,7 @@ values_push (x ∷ es) e =
 pub length_table : (es : List Entry) → length (table_bytes es) ≡ 10 * length es
 unfolding table_bytes
 length_table [] = refl
-length_table (e ∷ es) = omega (arith, length_append (row_bytes e) (table_bytes es), length_table es)
+length_table (e ∷ es) = omega (arith, length-append (row_bytes e) (table_bytes es), length_table es)
 
 pub length_log_entries : (m : List ℕ) (f n : ℕ) → length (log_entries m f n) ≡ n
 unfolding log_entries
@@ -149,7 +149,7 @@ values_more m out o o₁ f i j end end₁ l p p₁ =
     let more : values_bytes (log_entries m f (j + 1)) ≡ values_bytes (log_entries m f j) ++ content_bytes (log_content m (f + j)) =
     ap values_bytes (log_entries_more m f j) ∙ values_push (log_entries m f j) (log_entry m (f + j)) in
     record {
-      end_is = omega (arith, ap length more, length_append (values_bytes (log_entries m f j)) (content_bytes (log_content m (f + j))), p.end_is, p₁.end_is);
+      end_is = omega (arith, ap length more, length-append (values_bytes (log_entries m f j)) (content_bytes (log_content m (f + j))), p.end_is, p₁.end_is);
       is =
           p₁.is
           ∙ (ap (λ x. laid x end (content_bytes (log_content m (f + j)))) p.is
@@ -161,7 +161,7 @@ pub block_put : (out o o₁ : List ℕ) (es : List Entry) (n i end : ℕ) → le
     Put o (i + 10 * n) (values_bytes es) end o₁ → Put out i (block_bytes es) end o₁
 block_put out o o₁ es n i end c l e p =
     record {
-      end_is = omega (arith, length_append (table_bytes es) (values_bytes es), length_table es, p.end_is);
+      end_is = omega (arith, length-append (table_bytes es) (values_bytes es), length_table es, p.end_is);
       is =
           p.is
           ∙ (ap (λ x. laid x (i + 10 * n) (values_bytes es)) e ∙ laid_more out i (i + 10 * n) (table_bytes es) (values_bytes es) (omega (arith, length_table es)) l);

@@ -1,7 +1,7 @@
 -- Bytes put over others are read back, and the rest stays as it was.
 use Rattle.std.proofs.Common.{◌≡◌, ℕ, zero, suc, ◌+◌, ◌*◌, ◌/◌, ◌%◌, ◌<◌, ◌≤◌, List, [], ◌∷◌, ◌++◌, length, get_or, take, drop, set, sym, refl, ap, ◌∙◌, add-zero, add_assoc, add-one, arith}
 use borrow.Rule.Slice.PartMut.{put_mid}
-use Rattle.std.proofs.lemmas.List.{append_assoc, take-append-drop, length_append, length-drop, length-take-le, take_at, drop_at, drop-drop, get_or-drop, drop_more, set_split}
+use Rattle.std.proofs.lemmas.List.{append_assoc, take-append-drop, length-append, length-drop, length-take-le, take_at, drop_at, drop-drop, get_or-drop, drop_more, set_split}
 use Rattle.raft_log.specs.Bytes.{Bytes, eight, two, word_at, pair_at, laid}
 
 -- a part that was written whole
@@ -18,13 +18,13 @@ pub laid_more : (out : List ℕ) (i k : ℕ) (xs ys : List ℕ) → i + length x
 unfolding laid
 laid_more out i k xs ys e l =
     let front : List ℕ = take i out ++ xs in
-    let n : length front ≡ k = length_append (take i out) xs ∙ (ap (λ j. j + length xs) (length-take-le i out (omega arith)) ∙ e) in
+    let n : length front ≡ k = length-append (take i out) xs ∙ (ap (λ j. j + length xs) (length-take-le i out (omega arith)) ∙ e) in
     let whole : take i out ++ (xs ++ drop (i + length xs) out) ≡ front ++ drop k out =
     sym (append_assoc (take i out) xs (drop (i + length xs) out)) ∙ ap (λ j. front ++ drop j out) e in
     let behind : drop (k + length ys) (front ++ drop k out) ≡ drop (i + length (xs ++ ys)) out =
     sym (drop-drop (length ys) k (front ++ drop k out))
     ∙ (ap (drop (length ys)) (drop_at front (drop k out) k n)
-    ∙ (drop-drop (length ys) k out ∙ ap (λ j. drop j out) (omega (arith, length_append xs ys)))) in
+    ∙ (drop-drop (length ys) k out ∙ ap (λ j. drop j out) (omega (arith, length-append xs ys)))) in
     ap (λ x. take k x ++ (ys ++ drop (k + length ys) x)) whole
     ∙ (ap (λ t. t ++ (ys ++ drop (k + length ys) (front ++ drop k out))) (take_at front (drop k out) k n)
     ∙ (ap (λ t. front ++ (ys ++ t)) behind
@@ -34,8 +34,8 @@ laid_more out i k xs ys e l =
 pub length_laid : (out : List ℕ) (i : ℕ) (bs : List ℕ) → i + length bs ≤ length out → length (laid out i bs) ≡ length out
 unfolding laid
 length_laid out i bs l =
-    length_append (take i out) (bs ++ drop (i + length bs) out)
-    ∙ omega (arith, length-take-le i out (omega arith), length_append bs (drop (i + length bs) out), length-drop (i + length bs) out)
+    length-append (take i out) (bs ++ drop (i + length bs) out)
+    ∙ omega (arith, length-take-le i out (omega arith), length-append bs (drop (i + length bs) out), length-drop (i + length bs) out)
 
 -- what was written is read
 pub word_back : (w : ℕ) (bs : List ℕ) → w < 18446744073709551616 → word_at (eight w ++ bs) 0 ≡ w

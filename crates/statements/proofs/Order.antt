@@ -1,6 +1,6 @@
 -- What is applied by an order: two machines agree, also after the order and the proposals have grown.
 use Rattle.std.proofs.Common.{◌≡◌, ℕ, zero, suc, ◌-◌, ◌<◌, ◌≤◌, true, ◌&&◌, eqb, ltb, leb, List, [], ◌∷◌, ◌++◌, length, get_or, sym, refl, ap, ◌∙◌, subst, arith}
-use Rattle.std.proofs.lemmas.List.{length_append}
+use Rattle.std.proofs.lemmas.List.{length-append}
 use Rattle.std.proofs.lemmas.Bool.{and_parts, and_from, eqb-true, leb-true, ltb-true, lt-ltb, false≢true}
 use Rattle.together.specs.House.{every, same, Applied, nth_value, all_apart, begins, by_order}
 use Rattle.together.specs.Promise.{Agree, LaterProposals}
@@ -57,7 +57,7 @@ later_proposals ps qs o a is-order by =
     let parts = and_parts (every (λ j. ltb j (length ps)) o) (all_apart o) is-order in
     let x = by_order_parts ps o a by in
     let wider : (j : ℕ) → ltb j (length ps) ≡ true → ltb j (length (ps ++ qs)) ≡ true =
-    λ j h. lt-ltb j (length (ps ++ qs)) (omega (arith, ltb-true j (length ps) h, length_append ps qs)) in
+    λ j h. lt-ltb j (length (ps ++ qs)) (omega (arith, ltb-true j (length ps) h, length-append ps qs)) in
     let still : every (λ j. ltb j (length (ps ++ qs))) o ≡ true = every_weaker (λ j. ltb j (length ps)) (λ j. ltb j (length (ps ++ qs))) wider o parts.0 in
     let inside : get_or o (a.index - 1) 0 < length ps =
     ltb-true (get_or o (a.index - 1) 0) (length ps) (every_at (λ j. ltb j (length ps)) o 0 (a.index - 1) parts.0 (omega (arith, x.low, x.high))) in

@@ -1,6 +1,6 @@
 -- Majorities: two of them have a machine in common, and one of one machine is that machine.
 use Rattle.std.proofs.Common.{◌≡◌, ℕ, zero, suc, ◌<◌, ◌≤◌, Bool, true, false, not, eqb, ltb, ◌≢◌, List, [], ◌∷◌, ◌++◌, length, sym, refl, ap, ◌∙◌, subst, arith}
-use Rattle.std.proofs.lemmas.List.{length_append}
+use Rattle.std.proofs.lemmas.List.{length-append}
 use Rattle.std.proofs.lemmas.Bool.{and_parts, and_from, eqb-true, eqb-false, ltb-true, lt-ltb, not-true, not_from_false}
 use Rattle.together.specs.House.{every, any, those, pick, all_apart}
 use Rattle.together.specs.Promise.{TwoHalves, Alone}
@@ -93,7 +93,7 @@ two_halves xs ys n apart-x apart-y below-x below-y more-x more-y = go (any (λ x
         (omega (
           arith,
           at_most n (xs ++ ys) (apart_append xs ys apart-x apart-y e) (every_append (λ x. ltb x n) xs ys below-x below-y),
-          length_append xs ys,
+          length-append xs ys,
         ))
 
 pub alone : Alone
