@@ -1,4 +1,5 @@
 //! Times parts of the library on large inputs: `bench run`. Figures differ from run to run, so without that word it times nothing and prints nothing to compare.
+#![tactic(auto)]
 
 mod appends;
 mod conflicts;

@@ -1,4 +1,5 @@
 //! Goes through tables of cases: a row says what the library is called with and what is expected, and every row that comes out otherwise is printed.
+#![tactic(auto)]
 
 mod count;
 mod entries;

@@ -1,4 +1,5 @@
 //! One machine decides the lines of a file, or a few of its own, is stopped, and goes on from what is safe.
+#![tactic(auto)]
 
 mod node;
 

@@ -1,8 +1,6 @@
 -- What a change leaves of what memory stands for.
-use Rattle.std.proofs.Common.{◌≡◌, ℕ, ◌+◌, ◌<◌, ◌≤◌, Bool, true, false, eqb, ◌≢◌, List, length, get_or, set, sym, refl, ap, ◌∙◌, subst, arith}
-use Rattle.std.proofs.lemmas.List.{length-set, get_or-set_same, get_or-set_other}
-use Rattle.raft_log.specs.Layout.{memory_words}
-use Rattle.raft_log.specs.Block.{Entry as Row}
+use Rattle.std.proofs.Common.{◌≡◌, ℕ, ◌+◌, ◌<◌, ◌≤◌, eqb, ◌≢◌, List, length, get_or, set, sym, ap, ◌∙◌, subst, arith}
+use Rattle.std.proofs.lemmas.List.{length-set, get_or-set_other}
 use Rattle.raft_log.specs.View.{log_of, Tidy}
 use Rattle.raft_log.specs.Entries.{commit_index, applied_number}
 use Rattle.raft_log.proofs.LogLaws.{same_entries, same_commit, same_applied}
@@ -12,13 +10,12 @@ use Rattle.raft.specs.declared.header.Role.TheVariants.{Follower, Candidate, Lea
 use Rattle.raft.specs.declared.header.Machine.{Machine as Header}
 use Rattle.raft.specs.declared.say.Due.{Due}
 use Rattle.raft.specs.Header.{loaded, stored}
-use Rattle.raft.specs.Rows.{row_put, row_set}
+use Rattle.raft.specs.Rows.{row_set}
 use Rattle.raft.specs.Say.{said_to_others, said_to, answered}
 use Rattle.raft.proofs.HeaderLaws.{Held, loaded_stored, loaded_alike, length_stored, stored_other}
-use Rattle.raft.proofs.RowLaws.{length_row_put, row_put_other, row_put_same}
-use Rattle.protocol.specs.Log.{Log}
+use Rattle.raft.proofs.RowLaws.{length_row_put, row_put_other}
 use Rattle.machine.specs.Machine.{Machine}
-use Rattle.join.specs.Stands.{lift_log, Follows, Stood, Leads, RoleStands, Stands}
+use Rattle.join.specs.Stands.{lift_log, RoleStands, Stands}
 
 -- the rows of votes and progress are as they were
 pub role_alike : (n : ℕ) (m m₁ : List ℕ) (k : Kind) (x : Machine (List ℕ)) → n ≤ 7 → ((i : ℕ) → 8 ≤ i → i < 29 → get_or m₁ i 0 ≡ get_or m i 0) → RoleStands n m k x → RoleStands n m₁ k x

@@ -1,5 +1,5 @@
 -- What a memory stands for: a machine of the theory, with values as the contents of entries. Assumes nothing: these are definitions.
-use Rattle.std.specs.Prelude.{◌≡◌, ℕ, ◌+◌, ◌<◌, ◌≤◌, Bool, true, false, List, [], ◌∷◌, map, ◌==◌, slice_index}
+use Rattle.std.specs.Prelude.{◌≡◌, ℕ, ◌+◌, ◌<◌, Bool, List, map, ◌==◌, slice_index}
 use Rattle.raft_log.specs.Block.{Entry as Row}
 use Rattle.raft_log.specs.View.{log_of, Tidy}
 use Rattle.raft_log.specs.Entries.{commit_index}
@@ -7,7 +7,7 @@ use Rattle.raft.specs.declared.header.Role.{Role as Kind}
 use Rattle.raft.specs.declared.header.Role.TheVariants.{Follower, Candidate, Leader}
 use Rattle.raft.specs.Header.{loaded}
 use Rattle.protocol.specs.Log.{Entry, entry, Log}
-use Rattle.machine.specs.Machine.{Conf, Role, follower, candidate, leader, Machine}
+use Rattle.machine.specs.Machine.{Conf, follower, candidate, leader, Machine}
 
 -- the theory's numbers, for n machines: ten ticks to a time-out, 15 entries to a letter, 4,096 values to a log
 abbrev pub conf : ℕ → Conf

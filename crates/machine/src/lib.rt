@@ -1,4 +1,5 @@
 //! Machines and their letters, with stops at any time, keep to the protocol: what is proved of them, as contracts. No code runs here.
+#![tactic(auto)]
 
 ghost use Rattle.std.specs.Prelude.{◌≡◌, ℕ, List};
 ghost use Rattle.machine.specs.Theorems.{InitialRefines, ItemsAreMoves, GlobalOrder, OrderOnce, Agree, SamePlaces, SameNumbers, Further};

@@ -1,4 +1,5 @@
 //! The letters between machines, to bytes and back. Numbers are eight bytes, the low byte first; a letter has at most 4,096 bytes.
+#![tactic(auto)]
 
 use raft_log::{Index, Term};
 

@@ -1,4 +1,5 @@
 //! Safety of machines that take turns to lead and keep to the rules: what is proved of them, as contracts. No code runs here.
+#![tactic(auto)]
 
 ghost use Rattle.std.specs.Prelude.{◌≡◌};
 ghost use Rattle.protocol.specs.Theorems.{StartSafe, MovesKeepSafe, OthersStaySound, MovesGrow, StopRestores, PromisesLast};

@@ -1,14 +1,13 @@
 -- What is stored is loaded, and the rest of memory is as it was.
-use Rattle.std.proofs.Common.{◌≡◌, ℕ, ◌+◌, ◌<◌, ◌≤◌, Bool, true, false, cond, eqb, ltb, ◌≢◌, List, length, get_or, set, sym, refl, ap, ◌∙◌, subst, arith}
+use Rattle.std.proofs.Common.{◌≡◌, ℕ, ◌<◌, ◌≤◌, Bool, true, false, cond, eqb, ltb, ◌≢◌, List, length, get_or, set, refl, ap, ◌∙◌, arith}
 use Rattle.std.proofs.lemmas.List.{length-set, get_or-set_same, get_or-set_other}
 use Rattle.std.proofs.lemmas.Bool.{ltb-true, ltb-false, cond_both}
 use Rattle.raft_log.specs.Layout.{memory_words, at_most}
 use Rattle.raft_log.proofs.ValueLaws.{at_most_le, at_most_same}
-use Rattle.raft.specs.declared.header.Ticks.{Ticks}
 use Rattle.raft.specs.declared.header.Role.{Role}
 use Rattle.raft.specs.declared.header.Role.TheVariants.{Follower, Candidate, Leader}
 use Rattle.raft.specs.declared.header.Machine.{Machine}
-use Rattle.raft.specs.Header.{at_least, ticks, machine, size_of, role_of, role_word, elapsed_word, heard_word, flag_of, flag_word, loaded, stored}
+use Rattle.raft.specs.Header.{at_least, ticks, size_of, role_of, role_word, elapsed_word, heard_word, flag_of, flag_word, loaded, stored}
 
 -- a struct that memory can hold as it is
 pub record Held (x : Machine) : Type 0 where

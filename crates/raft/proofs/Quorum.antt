@@ -1,12 +1,12 @@
 -- The committed index of a row is the largest number that more than half have got to.
-use Rattle.std.proofs.Common.{◌≡◌, ℕ, zero, suc, ◌+◌, ◌-◌, ◌*◌, ◌<◌, ◌≤◌, Bool, true, false, cond, ltb, List, length, take, drop, Some, None, sym, refl, ap, ◌∙◌, inl, inr, arith, length-drop, length-take}
+use Rattle.std.proofs.Common.{◌≡◌, ℕ, zero, suc, ◌+◌, ◌-◌, ◌*◌, ◌≤◌, ltb, List, length, take, drop, Some, None, sym, ap, ◌∙◌, inl, inr, arith, length-drop, length-take}
 use Rattle.raft_log.specs.declared.Index.{Index}
 use Rattle.raft_log.specs.Layout.{memory_words}
 use Rattle.raft_log.specs.Entries.{last_index}
 use Rattle.std.proofs.lemmas.Bool.{lt-ltb, le-ltb, ltb-true, cond-true, cond-false, cases_lt, cases_Bool}
 use Rattle.raft_log.specs.Layout.{at_most}
-use Rattle.raft_log.proofs.ValueLaws.{at_most_le, at_most_same}
-use Rattle.tracker.specs.Majority.{reached, Quorum, Committed, CommittedSays}
+use Rattle.raft_log.proofs.ValueLaws.{at_most_same}
+use Rattle.tracker.specs.Majority.{reached, Committed, CommittedSays}
 use Rattle.tracker.proofs.Quorums.{reached_falls}
 use Rattle.raft.specs.Rows.{most_of, majority_below}
 use Rattle.raft.specs.Commit.{quorum_index}

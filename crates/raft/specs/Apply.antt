@@ -1,8 +1,8 @@
 -- What is still to be done after an event: make memory safe, then apply what is decided, one after the other.
-use Rattle.std.specs.Prelude.{ℕ, ◌+◌, Bool, false, cond, List, Some, None, Option, nat_lt}
+use Rattle.std.specs.Prelude.{ℕ, false, cond, List, Some, None, Option, nat_lt}
 use Rattle.raft_log.specs.Entries.{applied_number, applied_set, decided}
 use Rattle.raft.specs.declared.header.Machine.{Machine}
-use Rattle.raft.specs.Header.{machine, loaded, stored}
+use Rattle.raft.specs.Header.{machine, stored}
 
 abbrev pub settled : Machine → Machine
 settled x = machine x.size.0 x.id.0 x.term.0 x.role x.since.0 false

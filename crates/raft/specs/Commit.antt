@@ -1,5 +1,5 @@
 -- What a leader holds for decided.
-use Rattle.std.specs.Prelude.{ℕ, Bool, cond, List, take, drop, ◌==◌}
+use Rattle.std.specs.Prelude.{ℕ, cond, List, take, drop, ◌==◌}
 use Rattle.raft_log.specs.Entries.{last_index, term_at, commit_raised}
 use Rattle.raft.specs.Rows.{majority_below}
 

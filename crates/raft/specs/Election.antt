@@ -1,5 +1,5 @@
 -- Ticks, terms and votes: one that hears from no leader goes to the next term, and stands there if the term is its own.
-use Rattle.std.specs.Prelude.{ℕ, ◌+◌, ◌%◌, Bool, true, false, cond, not, ◌&&◌, ◌||◌, List, ◌==◌, nat_lt, slice_set}
+use Rattle.std.specs.Prelude.{ℕ, ◌+◌, ◌%◌, Bool, true, false, cond, ◌&&◌, ◌||◌, List, ◌==◌, nat_lt, slice_set}
 use Rattle.raft_log.specs.Entries.{empty_fits, empty_place, empty_appended}
 use Rattle.raft.specs.declared.header.Ticks.{Ticks}
 use Rattle.raft.specs.declared.header.Role.{Role}
@@ -9,7 +9,7 @@ use Rattle.raft.specs.declared.say.Due.{Due}
 use Rattle.raft.specs.declared.say.Due.TheVariants.{Append, RequestVote, TellTerm, Grant, Deny}
 use Rattle.raft.specs.Header.{ticks, machine, loaded, stored}
 use Rattle.raft.specs.Rows.{row_set, only, vote_count, most_of}
-use Rattle.raft.specs.Say.{said_to_others, said_to, answered}
+use Rattle.raft.specs.Say.{said_to_others, said_to}
 use Rattle.raft.specs.Commit.{maybe_committed}
 
 -- the only machine that may stand or lead in term t

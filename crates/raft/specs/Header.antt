@@ -1,5 +1,5 @@
 -- The first words of a machine's memory, and the struct that they stand for.
-use Rattle.std.specs.Prelude.{ℕ, Bool, true, false, cond, List, set, ◌==◌, nat_lt, slice_index, slice_set}
+use Rattle.std.specs.Prelude.{ℕ, Bool, cond, List, set, ◌==◌, nat_lt, slice_index, slice_set}
 use Rattle.raft_log.specs.Layout.{at_most}
 use Rattle.raft.specs.declared.header.Ticks.{Ticks}
 use Rattle.raft.specs.declared.header.Role.{Role}

@@ -1,5 +1,5 @@
 -- The letters that are due, one for each machine at most, made from memory as they fly.
-use Rattle.std.specs.Prelude.{ℕ, zero, suc, ◌+◌, ◌-◌, Bool, true, false, cond, List, Some, None, Option, ◌==◌, slice_index, slice_set}
+use Rattle.std.specs.Prelude.{ℕ, zero, suc, ◌+◌, ◌-◌, true, false, cond, List, Some, None, Option, ◌==◌, slice_index, slice_set}
 use Rattle.raft_log.specs.Layout.{at_most}
 use Rattle.raft_log.specs.Entries.{last_index, commit_index, term_at}
 use Rattle.raft_log.specs.Block.{log_entries}

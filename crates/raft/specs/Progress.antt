@@ -1,6 +1,5 @@
 -- What a leader makes of the answers to its appends.
-use Rattle.std.specs.Prelude.{ℕ, suc, ◌+◌, min, max, Bool, cond, ◌&&◌, List, ◌==◌, nat_le, nat_lt, slice_set}
-use Rattle.raft_log.specs.Layout.{at_most}
+use Rattle.std.specs.Prelude.{ℕ, ◌+◌, Bool, cond, ◌&&◌, List, ◌==◌, nat_le, nat_lt, slice_set}
 use Rattle.raft_log.specs.Entries.{last_index, commit_index}
 use Rattle.raft.specs.declared.header.Machine.{Machine}
 use Rattle.raft.specs.declared.say.Due.TheVariants.{Append}

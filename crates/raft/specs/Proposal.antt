@@ -1,5 +1,5 @@
 -- What a proposal does: it is refused, or stands last in the leader's log and is sent to all others.
-use Rattle.std.specs.Prelude.{◌≡◌, ℕ, ◌+◌, Bool, true, cond, List, length, Ok, Err, Result, nat_lt, slice_set}
+use Rattle.std.specs.Prelude.{◌≡◌, ℕ, ◌+◌, true, cond, List, length, Ok, Err, Result, nat_lt, slice_set}
 use Rattle.raft_log.specs.Entries.{last_index, value_fits, value_appended}
 use Rattle.raft.specs.declared.header.Role.{Role}
 use Rattle.raft.specs.declared.header.Role.TheVariants.{Follower, Candidate, Leader}

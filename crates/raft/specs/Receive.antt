@@ -6,7 +6,6 @@ use Rattle.raft_log.specs.View.{log_of}
 use Rattle.raft_log.specs.Conflict.{conflict, is_up_to_date}
 use Rattle.raft_log.specs.Accept.{accepts, accepted, hint}
 use Rattle.messages.specs.Letter.{Letter, append, append_response, append_reject, request_vote, request_vote_response, term_notice}
-use Rattle.raft.specs.declared.header.Ticks.{Ticks}
 use Rattle.raft.specs.declared.header.Role.{Role}
 use Rattle.raft.specs.declared.header.Role.TheVariants.{Follower, Candidate, Leader}
 use Rattle.raft.specs.declared.header.Machine.{Machine}

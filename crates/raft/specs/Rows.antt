@@ -1,5 +1,5 @@
 -- Rows of seven words, one for each machine: who voted, what each has acknowledged, what it is sent next, and which letter is due to it.
-use Rattle.std.specs.Prelude.{ℕ, zero, suc, ◌+◌, ◌*◌, Bool, true, false, cond, not, ◌&&◌, List, length, take, drop, set, count_by, ◌==◌, nat_eq, nat_lt, slice_index, slice_set}
+use Rattle.std.specs.Prelude.{ℕ, zero, suc, ◌+◌, ◌*◌, Bool, cond, not, ◌&&◌, List, length, take, drop, count_by, ◌==◌, nat_eq, nat_lt, slice_index, slice_set}
 use Rattle.tracker.specs.Majority.{reached}
 use Rattle.raft.specs.declared.header.Machine.{Machine}
 

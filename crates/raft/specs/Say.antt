@@ -1,5 +1,5 @@
 -- Letters that are due: at most one to each machine, by its kind; the letter itself is made when it flies.
-use Rattle.std.specs.Prelude.{ℕ, ◌+◌, List, slice_set}
+use Rattle.std.specs.Prelude.{ℕ, List, slice_set}
 use Rattle.raft.specs.declared.header.Machine.{Machine}
 use Rattle.raft.specs.declared.say.Due.{Due}
 use Rattle.raft.specs.declared.say.Due.TheVariants.{Append, RequestVote, TellTerm, Grant, Deny, Accept, Reject}

@@ -1,4 +1,5 @@
 //! One machine: its role, its term, its clock of ticks, and what an event changes in its memory.
+#![tactic(auto)]
 
 pub mod apply;
 pub mod commit;

@@ -1,11 +1,11 @@
 -- The log with one entry more, or with its last entry renewed.
-use Rattle.std.proofs.Common.{◌≡◌, ℕ, zero, suc, ◌+◌, ◌-◌, ◌*◌, ◌<◌, ◌≤◌, Bool, true, false, cond, ◌&&◌, eqb, ltb, leb, ◌≢◌, List, length, get_or, set, sym, refl, ap, ◌∙◌, subst, inl, inr, arith}
+use Rattle.std.proofs.Common.{◌≡◌, ℕ, zero, suc, ◌+◌, ◌-◌, ◌*◌, ◌<◌, ◌≤◌, true, cond, ◌&&◌, eqb, ltb, leb, ◌≢◌, List, length, get_or, set, sym, refl, ap, ◌∙◌, inl, inr, arith}
 use Rattle.std.proofs.lemmas.List.{length-set, get_or-set_same, get_or-set_other}
-use Rattle.std.proofs.lemmas.Bool.{ltb-true, leb-true, eqb-true, le-leb, lt-leb, eq-eqb, ne_eqb, and_parts, and_from, and_right, cond-true, cond-false, cond_both, cases_Bool, cases_lt}
-use Rattle.raft_log.specs.Layout.{memory_words, at_most, entry_row, value_row}
+use Rattle.std.proofs.lemmas.Bool.{ltb-true, leb-true, eqb-true, le-leb, eq-eqb, and_parts, and_from, cond-true, cond-false, cond_both, cases_Bool}
+use Rattle.raft_log.specs.Layout.{memory_words, at_most, entry_row}
 use Rattle.raft_log.specs.Values.{value_at, value_put}
-use Rattle.raft_log.specs.Entries.{last_index, commit_index, applied_number, in_log, term_at, number_at, values, decided, last_is_empty, entry_put, entry_pushed, value_fits, value_appended, empty_place, empty_fits, empty_appended, applied_set}
-use Rattle.raft_log.proofs.ValueLaws.{at_most_le, at_most_same, value_alike, length_value_put, value_put_before, value_put_other, value_put_same, Bytes}
+use Rattle.raft_log.specs.Entries.{last_index, applied_number, in_log, term_at, number_at, values, last_is_empty, entry_put, entry_pushed, value_fits, value_appended, empty_place, empty_fits, empty_appended}
+use Rattle.raft_log.proofs.ValueLaws.{at_most_same, value_alike, length_value_put, value_put_before, value_put_other, value_put_same, Bytes}
 use Rattle.raft_log.proofs.LogLaws.{last_most, number_most, same_applied}
 
 in_log_true : (m : List ℕ) (i : ℕ) → 1 ≤ i → i ≤ last_index m → in_log m i ≡ true

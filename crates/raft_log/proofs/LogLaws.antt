@@ -1,11 +1,11 @@
 -- What each change of the log leaves as it was, and what it makes of the rest.
-use Rattle.std.proofs.Common.{◌≡◌, ℕ, zero, suc, ◌+◌, ◌-◌, ◌*◌, ◌<◌, ◌≤◌, Bool, true, false, cond, ◌&&◌, eqb, ltb, leb, ◌≢◌, List, length, get_or, set, sym, refl, ap, ◌∙◌, subst, inl, inr, arith}
+use Rattle.std.proofs.Common.{◌≡◌, ℕ, zero, suc, ◌+◌, ◌≤◌, false, cond, ◌&&◌, ltb, leb, ◌≢◌, List, length, get_or, set, sym, refl, ap, ◌∙◌, inl, inr, arith}
 use Rattle.std.proofs.lemmas.List.{length-set, get_or-set_same, get_or-set_other}
-use Rattle.std.proofs.lemmas.Bool.{ltb-true, leb-true, le-leb, lt-leb, eq-eqb, ne_eqb, and_parts, and_from, and_left, and_right, cond-true, cond-false, cond_both, cases_Bool, cases_lt, lt-ltb, true≢false}
-use Rattle.raft_log.specs.Layout.{memory_words, at_most, entry_row, value_row}
-use Rattle.raft_log.specs.Values.{value_at, value_put}
-use Rattle.raft_log.specs.Entries.{last_index, commit_index, applied_number, in_log, term_at, number_at, values, decided, last_is_empty, entry_put, entry_pushed, value_fits, value_appended, empty_place, empty_fits, empty_appended, commit_rises, commit_raised, applied_set}
-use Rattle.raft_log.proofs.ValueLaws.{at_most_le, at_most_same, value_alike, length_value_put, value_put_before, value_put_behind, value_put_other, value_put_same, Bytes}
+use Rattle.std.proofs.lemmas.Bool.{le-leb, and_from, cond-true, cond-false, cond_both, cases_Bool, cases_lt, lt-ltb, true≢false}
+use Rattle.raft_log.specs.Layout.{memory_words, at_most, entry_row}
+use Rattle.raft_log.specs.Values.{value_at}
+use Rattle.raft_log.specs.Entries.{last_index, commit_index, applied_number, in_log, term_at, number_at, commit_rises, commit_raised, applied_set}
+use Rattle.raft_log.proofs.ValueLaws.{at_most_le, at_most_same, value_alike}
 
 -- what is read is bounded
 pub last_most : (m : List ℕ) → last_index m ≤ 8193

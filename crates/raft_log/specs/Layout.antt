@@ -1,5 +1,5 @@
 -- Where things stand in a machine's memory: 64 words of the machine's own, 8 of the log, a row of 2 for each entry, a row of 33 for each value.
-use Rattle.std.specs.Prelude.{ℕ, ◌+◌, ◌*◌, Bool, true, false, cond, nat_lt}
+use Rattle.std.specs.Prelude.{ℕ, ◌+◌, ◌*◌, cond, nat_lt}
 
 -- the length of the whole memory
 abbrev pub memory_words : ℕ

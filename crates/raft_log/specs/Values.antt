@@ -1,5 +1,5 @@
 -- Values in memory: a row holds a length of up to 256 and the bytes, eight to a word, the low byte first.
-use Rattle.std.specs.Prelude.{ℕ, zero, suc, ◌+◌, ◌*◌, ◌/◌, ◌%◌, ◌^◌, List, [], ◌∷◌, map, length, slice_index, slice_set}
+use Rattle.std.specs.Prelude.{ℕ, zero, suc, ◌+◌, ◌*◌, ◌/◌, ◌%◌, List, map, length, slice_index, slice_set}
 use Rattle.std.specs.List.{range_with_len}
 use Rattle.raft_log.specs.Layout.{at_most, value_row}
 

@@ -30,8 +30,8 @@ fn truncate(memory: &mut [u64], index: Index)
 // Puts entry `i` of a block behind the last.
 fn append_entry(memory: &mut [u64], block: &[u8], count: usize, i: usize)
     requires memory_len { length memory.old ≡ memory_words }
-    requires count_value { (block_fits block.now count ≡ true) × (i < count) }
-    requires count_value_2 { entries_fit memory.old (drop i (block_entries block.now count)) ≡ true }
+    requires block_valid { (block_fits block.now count ≡ true) × (i < count) }
+    requires room { entries_fit memory.old (drop i (block_entries block.now count)) ≡ true }
     ensures { memory.new ≡ entry_taken memory.old (block_entry block.now count i) }
 {
     let term = entry_term(block, i);
@@ -53,8 +53,8 @@ fn append_entry(memory: &mut [u64], block: &[u8], count: usize, i: usize)
 // Puts the entries of a block from `start` on behind the last.
 fn append_entries(memory: &mut [u64], block: &[u8], count: usize, start: usize)
     requires memory_len { length memory.old ≡ memory_words }
-    requires count_value { (block_fits block.now count ≡ true) × (start ≤ count) }
-    requires count_value_2 { entries_fit memory.old (drop start (block_entries block.now count)) ≡ true }
+    requires block_valid { (block_fits block.now count ≡ true) × (start ≤ count) }
+    requires room { entries_fit memory.old (drop start (block_entries block.now count)) ≡ true }
     ensures { memory.new ≡ entries_taken memory.old (drop start (block_entries block.now count)) }
 {
     for i in start..count {
@@ -87,7 +87,7 @@ fn values_from(block: &[u8], count: usize, start: usize) -> u64
 // Is there room for the entries of a block from `start` on behind the first entries of the log, up to `index`?
 fn has_room(memory: &[u64], index: Index, block: &[u8], count: usize, start: usize) -> bool
     requires memory_len { (length memory.now ≡ memory_words) × (index.0 ≤ last_index memory.now) }
-    requires count_value { (block_fits block.now count ≡ true) × (start ≤ count) }
+    requires block_valid { (block_fits block.now count ≡ true) × (start ≤ count) }
     ensures { result ≡ entries_fit (truncated memory.now index.0) (drop start (block_entries block.now count)) }
 {
     let entries = index.0 + (count - start) as u64;
@@ -98,7 +98,7 @@ fn has_room(memory: &[u64], index: Index, block: &[u8], count: usize, start: usi
 // Puts the entries of a block behind `prev`: where the log has them it stays as it is, also if it is longer, and where it first lacks one it is cut. `false`, and nothing changed, where they do not fit.
 fn merge(memory: &mut [u64], prev: Index, block: &[u8], count: usize) -> bool
     requires memory_len { (length memory.old ≡ memory_words) × (prev.0 ≤ last_index memory.old) }
-    requires count_value { block_fits block.now count ≡ true }
+    requires block_valid { block_fits block.now count ≡ true }
     ensures fits { result ≡ merges memory.old prev.0 (block_entries block.now count) }
     ensures done { memory.new ≡ (if result then merged memory.old prev.0 (block_entries block.now count) else memory.old) }
 {
@@ -143,7 +143,7 @@ pub fn maybe_append(
     count: usize,
 ) -> Result<Index, Refused>
     requires memory_len { length memory.old ≡ memory_words }
-    requires count_value { block_fits block.now count ≡ true }
+    requires block_valid { block_fits block.now count ≡ true }
     ensures { AppendAnswered memory.old prev.0 prev_term.0 commit.0 (block_entries block.now count) result memory.new }
 {
     if !match_term(memory, prev, prev_term) {

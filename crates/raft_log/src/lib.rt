@@ -1,4 +1,5 @@
 //! The log of one machine, in words that are lent to it: entries with terms, and the values that some of them hold.
+#![tactic(auto)]
 
 pub mod accept;
 pub mod block;

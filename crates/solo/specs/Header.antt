@@ -1,10 +1,6 @@
 -- The first words of a machine's memory, and the struct that they stand for.
-use Rattle.std.specs.Prelude.{ℕ, Bool, true, false, cond, List, set, ◌==◌, nat_lt, slice_index, slice_set}
+use Rattle.std.specs.Prelude.{ℕ, Bool, cond, List, set, ◌==◌, nat_lt, slice_index, slice_set}
 use Rattle.raft_log.specs.Layout.{at_most}
-use Rattle.raft_log.specs.declared.Term.{Term}
-use Rattle.raft_log.specs.declared.Number.{Number}
-use Rattle.raft_log.specs.declared.MachineId.{MachineId}
-use Rattle.solo.specs.declared.header.ClusterSize.{ClusterSize}
 use Rattle.solo.specs.declared.header.Ticks.{Ticks}
 use Rattle.solo.specs.declared.header.Role.{Role}
 use Rattle.solo.specs.declared.header.Role.TheVariants.{Follower, Candidate, Leader}

@@ -1,5 +1,5 @@
 -- What a proposal does: it is refused, or stands last in the leader's log.
-use Rattle.std.specs.Prelude.{◌≡◌, ℕ, ◌+◌, Bool, true, cond, List, length, Ok, Err, Result, nat_lt}
+use Rattle.std.specs.Prelude.{◌≡◌, ℕ, ◌+◌, true, cond, List, length, Ok, Err, Result, nat_lt}
 use Rattle.raft_log.specs.Entries.{last_index, value_fits, value_appended, commit_raised}
 use Rattle.solo.specs.declared.header.Role.{Role}
 use Rattle.solo.specs.declared.header.Role.TheVariants.{Follower, Candidate, Leader}

@@ -1,3 +1,4 @@
+#![tactic(auto)]
 // The small statements about machines that decide together: each is what the contract of a function here says.
 ghost use Rattle.together.specs.Promise.{Agree, LaterProposals, TwoHalves, NoGap, CalmMore, Alone};
 ghost use Rattle.statements.specs.Near.{AgreeByAny, LaterInFront, HalvesMeet, NoGapSince, AloneTwice};

@@ -1,5 +1,5 @@
 -- The memory's length, and when a call of `step` fits.
-use Rattle.std.proofs.Common.{◌≡◌, ℕ, List, length, refl}
+use Rattle.std.proofs.Common.{◌≡◌, ℕ, List, length}
 use lib.ListN.{length-replicate}
 use Rattle.raft_log.specs.Layout.{memory_words}
 use Rattle.together.specs.Machine.{zeros, start}

@@ -1,7 +1,7 @@
 -- What the entry `half` answers, and how a step of the machine is told to its caller. Assumes nothing: these are definitions.
-use Rattle.std.specs.Prelude.{◌≡◌, ℕ, zero, suc, ◌+◌, ◌-◌, ◌*◌, ◌/◌, ◌%◌, ◌<◌, ◌≤◌, Bool, true, false, not, ◌&&◌, leb, ◌⊎◌, List, [], ◌∷◌, ◌++◌, length, drop, ◌==◌, nat_eq, nat_le, nat_lt}
+use Rattle.std.specs.Prelude.{◌≡◌, ℕ, ◌*◌, Bool, true, false, not, ◌&&◌, leb, List, ◌++◌, length, drop, ◌==◌, nat_eq, nat_le, nat_lt}
 use Rattle.raft_log.specs.Layout.{memory_words}
-use Rattle.together.specs.House.{pick, or, every, any, those, none_of, Command, propose, how_far}
+use Rattle.together.specs.House.{pick, or, every, any, those, none_of, propose, how_far}
 use Rattle.together.specs.declared.Reply.{Reply}
 use Rattle.together.specs.declared.Reply.TheVariants.{Index, Refused}
 use Rattle.together.specs.Promise.{Engine, Event, on, said, came, tick, next, Act, flies, settle, applies, shows, done, refused, Step}

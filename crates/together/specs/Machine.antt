@@ -1,5 +1,5 @@
 -- The machine: what it does at each event, on the words of its memory.
-use Rattle.std.specs.Prelude.{ℕ, zero, suc, ◌+◌, ◌-◌, Bool, true, false, cond, List, [], ◌∷◌, ◌++◌, replicate, Some, None, Ok, Err, Option, Result}
+use Rattle.std.specs.Prelude.{ℕ, zero, suc, ◌+◌, ◌-◌, cond, List, [], ◌∷◌, ◌++◌, replicate, Some, None, Ok, Err, Option, Result}
 use Rattle.raft_log.specs.Layout.{memory_words}
 use Rattle.raft_log.specs.Values.{value_at}
 use Rattle.raft_log.specs.Entries.{applied_number, decided}
@@ -11,7 +11,7 @@ use Rattle.solo.specs.Election.{ticked}
 use Rattle.solo.specs.Proposal.{proposed, refusal_number}
 use Rattle.solo.specs.Apply.{settled, due, advanced}
 use Rattle.together.specs.House.{Command, propose, how_far}
-use Rattle.together.specs.Promise.{Event, on, said, came, tick, next, Act, flies, settle, applies, shows, done, refused, Step}
+use Rattle.together.specs.Promise.{Event, on, said, came, tick, next, Act, settle, applies, shows, done, refused, Step}
 
 abbrev pub answer : List ℕ → Act → Step
 answer m a = record { memory = m; act = a }

@@ -1,4 +1,6 @@
 //! Machines that decide together: one step of a machine, as the world outside sees it.
+#![tactic(auto)]
+
 ghost use Rattle.std.specs.Prelude.{◌≡◌, [], ◌∷◌, length};
 ghost use Rattle.together.specs.Cases.{HalfIs};
 ghost use Rattle.together.specs.Entry.{HalfSays, half_fits, StepSays, step_fits, lengths_fit, smaller, own};

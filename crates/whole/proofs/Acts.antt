@@ -1,14 +1,14 @@
 -- The machine keeps to its plan: first memory is made safe, then what is decided is applied.
-use Rattle.std.proofs.Common.{◌≡◌, ℕ, zero, suc, ◌+◌, ◌-◌, ◌<◌, ◌≤◌, Bool, true, false, cond, ltb, ◌⊎◌, List, [], ◌∷◌, ◌++◌, length, get_or, Some, None, sym, refl, ap, ◌∙◌, subst, inl, inr, arith}
-use Rattle.std.proofs.lemmas.Bool.{lt-ltb, le-ltb, cond-true, cond-false, cases_Bool, cases_lt, true≢false}
+use Rattle.std.proofs.Common.{◌≡◌, ℕ, zero, suc, ◌+◌, ◌-◌, ◌<◌, ◌≤◌, true, false, cond, List, [], ◌∷◌, ◌++◌, length, Some, None, sym, refl, ap, ◌∙◌, subst, inl, inr, arith}
+use Rattle.std.proofs.lemmas.Bool.{lt-ltb, le-ltb, cond-true, cond-false, cases_Bool, cases_lt}
 use Rattle.raft_log.specs.Layout.{memory_words}
 use Rattle.raft_log.specs.Values.{value_at}
 use Rattle.raft_log.specs.Entries.{commit_index, applied_number, number_at, decided, applied_set}
-use Rattle.raft_log.proofs.LogLaws.{applied_most, number_most, SameEntries, applied_set_entries, applied_set_commit, applied_set_applied, applied_set_other, length_applied_set}
+use Rattle.raft_log.proofs.LogLaws.{number_most, SameEntries, applied_set_entries, applied_set_commit, applied_set_applied, applied_set_other, length_applied_set}
 use Rattle.solo.specs.declared.header.Machine.{Machine}
-use Rattle.solo.specs.Header.{elapsed_word, loaded, stored}
+use Rattle.solo.specs.Header.{loaded, stored}
 use Rattle.solo.specs.Apply.{settled, applied_up_to, due, advanced}
-use Rattle.solo.proofs.HeaderLaws.{Held, loaded_held, loaded_stored, loaded_alike, length_stored, stored_other, stored_entries, stored_commit, stored_applied}
+use Rattle.solo.proofs.HeaderLaws.{Held, loaded_held, loaded_stored, loaded_alike, length_stored, stored_entries, stored_commit, stored_applied}
 use Rattle.together.specs.Promise.{Act, settle, applies, done, next, Step}
 use Rattle.together.specs.Machine.{answer, apply_due, go_on, own_step, decisions_from, acts}
 use Rattle.together.specs.Entry.{own}

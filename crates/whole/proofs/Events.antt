@@ -1,16 +1,15 @@
 -- What each event changes, in a machine whose log is what the order says.
-use Rattle.std.proofs.Common.{◌≡◌, ℕ, zero, suc, ◌+◌, ◌-◌, ◌*◌, ◌<◌, ◌≤◌, Bool, true, false, cond, ◌&&◌, eqb, ltb, leb, ◌⊎◌, List, [], ◌∷◌, ◌++◌, length, get_or, sym, refl, ap, ◌∙◌, subst, inl, inr, arith}
+use Rattle.std.proofs.Common.{◌≡◌, ℕ, suc, ◌+◌, ◌-◌, ◌<◌, ◌≤◌, true, eqb, ltb, leb, List, [], ◌∷◌, ◌++◌, length, sym, refl, ap, ◌∙◌, subst, arith}
 use Rattle.std.proofs.lemmas.List.{length_push}
 use Rattle.std.proofs.lemmas.Bool.{ltb-true, lt-ltb, le-leb, and_from, cond_both, cond-true, true≢false}
-use Rattle.raft_log.specs.Layout.{memory_words}
-use Rattle.raft_log.specs.Entries.{last_index, commit_index, applied_number, value_fits, value_appended, empty_place, empty_fits, empty_appended, commit_raised, applied_set}
-use Rattle.raft_log.proofs.LogLaws.{applied_most, SameEntries, applied_set_entries, applied_set_commit, applied_set_applied, applied_set_other, length_applied_set, commit_raised_applied}
+use Rattle.raft_log.specs.Entries.{last_index, applied_number, value_fits, value_appended, empty_place, empty_fits, empty_appended, commit_raised, applied_set}
+use Rattle.raft_log.proofs.LogLaws.{applied_most, applied_set_entries, applied_set_commit, applied_set_applied, applied_set_other, length_applied_set, commit_raised_applied}
 use Rattle.raft_log.proofs.AppendLaws.{appended_applied, empty_applied}
 use Rattle.solo.specs.declared.header.Ticks.{Ticks}
 use Rattle.solo.specs.declared.header.Role.{Role}
 use Rattle.solo.specs.declared.header.Role.TheVariants.{Follower, Candidate, Leader}
 use Rattle.solo.specs.declared.header.Machine.{Machine}
-use Rattle.solo.specs.Header.{ticks, machine, elapsed_word, loaded, stored}
+use Rattle.solo.specs.Header.{ticks, elapsed_word, loaded, stored}
 use Rattle.solo.specs.Power.{belongs, restarted, powered}
 use Rattle.solo.specs.Election.{older, with_role, in_term, led, campaigned, term_entered, next_term_entered, waited, tick_as, ticked, most_of, owner}
 use Rattle.solo.specs.Proposal.{with_unsettled, own_acked, taken}
@@ -18,7 +17,7 @@ use Rattle.solo.proofs.HeaderLaws.{Held, loaded_held, loaded_stored, loaded_alik
 use Rattle.together.specs.House.{Far, far, next_ok, may_apply, an_order}
 use Rattle.together.specs.Promise.{last_since, are_bytes}
 use Rattle.whole.proofs.Acts.{Long, SameLog, stored_log}
-use Rattle.whole.proofs.Holds.{Holds, holds_same, holds_led, holds_taken, holds_later}
+use Rattle.whole.proofs.Holds.{Holds, holds_same, holds_led, holds_taken}
 use Rattle.whole.proofs.Going.{Stable, Going, Rests}
 
 not_leader : {A : Type 0} (e : Ticks) → Follower e ≡ Leader → A

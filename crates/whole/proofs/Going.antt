@@ -1,21 +1,20 @@
 -- A machine whose log is what the order says does what is due: it applies in turn, by the order, and what is safe stays right at each act.
-use Rattle.std.proofs.Common.{◌≡◌, ℕ, zero, suc, ◌+◌, ◌-◌, ◌<◌, ◌≤◌, Bool, true, false, cond, ◌&&◌, eqb, ltb, leb, ◌⊎◌, List, [], ◌∷◌, ◌++◌, length, get_or, sym, refl, ap, ◌∙◌, subst, inl, inr, arith}
-use Rattle.std.proofs.lemmas.List.{length-append}
+use Rattle.std.proofs.Common.{◌≡◌, ℕ, zero, suc, ◌+◌, ◌-◌, ◌<◌, ◌≤◌, Bool, true, false, cond, ◌&&◌, ltb, leb, ◌⊎◌, List, [], ◌∷◌, ◌++◌, length, get_or, sym, refl, ap, ◌∙◌, subst, inl, inr, arith}
 use Rattle.std.proofs.lemmas.Bool.{ltb-true, ltb-false, le-leb, eq-eqb, and_from, true≢false}
 use Rattle.raft_log.specs.Values.{value_at}
 use Rattle.raft_log.specs.Entries.{commit_index, applied_number, decided}
 use Rattle.raft_log.proofs.LogLaws.{number_most}
 use Rattle.solo.specs.declared.header.Role.TheVariants.{Leader}
 use Rattle.solo.specs.declared.header.Machine.{Machine}
-use Rattle.solo.specs.Header.{loaded, stored}
-use Rattle.solo.specs.Apply.{settled, applied_up_to}
+use Rattle.solo.specs.Header.{loaded}
+use Rattle.solo.specs.Apply.{settled}
 use Rattle.solo.proofs.HeaderLaws.{stored_applied}
-use Rattle.together.specs.House.{pick, every, same, Applied, applied, Far, far, next_ok, may_apply, larger, got_to, all_in_turn, far_after, nth_value, by_order}
-use Rattle.together.specs.Promise.{Act, settle, applies, Step, Letter, Ran, ran, last_since}
-use Rattle.together.specs.Machine.{answer, go_on, decisions_from, acts}
+use Rattle.together.specs.House.{pick, every, same, Applied, applied, Far, next_ok, may_apply, larger, got_to, all_in_turn, far_after, nth_value, by_order}
+use Rattle.together.specs.Promise.{Act, settle, Step, Ran, ran, last_since}
+use Rattle.together.specs.Machine.{decisions_from, acts}
 use Rattle.together.specs.Entry.{own}
 use Rattle.whole.proofs.Plans.{end_done, outcome, memory_after, stable_after, end_after, first_acts, letters_in, decisions_in}
-use Rattle.whole.proofs.Acts.{Long, rest, Goes, settling, applying, resting, goes, safe, safe_loaded, safe_long, stored_log, same_decided, go_settle, acts_settle, onward, onward_loaded, onward_long, onward_log, onward_applied, go_apply, acts_apply, acts_done, acts_still, own_planned}
+use Rattle.whole.proofs.Acts.{Long, rest, Goes, settling, applying, resting, goes, safe, safe_loaded, safe_long, stored_log, same_decided, go_settle, acts_settle, onward, onward_loaded, onward_long, onward_log, onward_applied, go_apply, acts_apply, acts_done, own_planned}
 use Rattle.whole.proofs.Holds.{Holds, holds_decided, holds_same}
 use Rattle.whole.proofs.Orders.{same_self}
 

@@ -1,5 +1,5 @@
 -- From "whatever happens keeps an invariant" to the main promise, for any engine and any invariant.
-use Rattle.std.proofs.Common.{◌≡◌, ℕ, zero, suc, ◌+◌, ◌<◌, ◌≤◌, Bool, true, false, List, [], ◌∷◌, length, arith}
+use Rattle.std.proofs.Common.{◌≡◌, ℕ, suc, ◌+◌, ◌<◌, ◌≤◌, Bool, true, false, List, [], ◌∷◌, length, arith}
 use Rattle.together.specs.Promise.{Engine, World, Thing, Item, whole, cut, proper, thing_ran, after_thing, applied_right, may_end, Calm, Right}
 
 -- how something goes that is not cut short: it ends as it may, what it applies is right, and the invariant holds of the world after

@@ -1,21 +1,20 @@
 -- The main promise for the machine.
-use Rattle.std.proofs.Common.{◌≡◌, ℕ, ◌+◌, ◌<◌, ◌≤◌, Bool, true, false, eqb, ltb, List, [], ◌∷◌, length, get_or, replicate, sym, refl, ap, ◌∙◌, subst, inl, inr, arith}
+use Rattle.std.proofs.Common.{◌≡◌, ℕ, ◌≤◌, false, eqb, List, [], get_or, sym, refl, ap, ◌∙◌, subst, inl, inr, arith}
 use Rattle.std.proofs.lemmas.List.{get_or-replicate, get_or_past}
 use Rattle.std.proofs.lemmas.Bool.{cases_lt, false≢true}
 use Rattle.raft_log.specs.Layout.{memory_words, at_most}
-use Rattle.raft_log.specs.Entries.{last_index, commit_index, applied_number, number_at, values}
+use Rattle.raft_log.specs.Entries.{last_index, applied_number, number_at, values}
 use Rattle.raft_log.proofs.LogLaws.{commit_most}
 use Rattle.raft_log.proofs.AppendLaws.{number_none}
 use Rattle.solo.specs.Header.{loaded}
-use Rattle.together.specs.House.{or, every, all_apart, far}
-use Rattle.together.specs.Promise.{Item, Machine, machine, machine_at, so_many, World, world, Right, Whole}
+use Rattle.together.specs.House.{every, all_apart, far}
+use Rattle.together.specs.Promise.{Machine, machine, so_many, world, Right, Whole}
 use Rattle.together.specs.Machine.{zeros, start}
 use Rattle.together.specs.Entry.{own}
 use Rattle.together.proofs.Lengths.{length_zeros, length_start}
 use Rattle.whole.proofs.Kept.{Keeps, keeps_right}
 use Rattle.whole.proofs.Steady.{steady}
 use Rattle.whole.proofs.Holds.{Holds}
-use Rattle.whole.proofs.Going.{Stable}
 use Rattle.whole.proofs.Worlds.{Sound, Good, whole_kept, cut_kept}
 use Rattle.whole.proofs.Solo.{calm_alone}
 use Rattle.whole.proofs.Orders.{at_so_many, length_so_many}

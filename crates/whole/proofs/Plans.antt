@@ -1,5 +1,5 @@
 -- A run of an engine whose acts are planned: what is still to be done is a list that memory determines, and each step does the first of them.
-use Rattle.std.proofs.Common.{◌≡◌, ℕ, zero, suc, ◌+◌, ◌<◌, ◌≤◌, Bool, true, false, ◌&&◌, ltb, leb, ◌⊎◌, List, [], ◌∷◌, ◌++◌, length, take, sym, refl, ap, ◌∙◌, subst, inl, inr, arith}
+use Rattle.std.proofs.Common.{◌≡◌, ℕ, zero, suc, ◌<◌, ◌≤◌, Bool, true, false, ◌&&◌, leb, ◌⊎◌, List, [], ◌∷◌, ◌++◌, length, refl, ap, ◌∙◌, inl, inr, arith}
 use Rattle.std.proofs.lemmas.List.{append_assoc, append-nil}
 use Rattle.together.specs.House.{pick, Applied, applied}
 use Rattle.together.specs.Promise.{Engine, Event, next, Act, flies, settle, applies, shows, done, refused, Step, Letter, letter, are_bytes, Ran, ran, runs, one_act}

@@ -1,7 +1,7 @@
 -- How each event goes, for one machine, whole or cut short: what it applies is right, and what is safe and in memory stays so.
-use Rattle.std.proofs.Common.{◌≡◌, ℕ, zero, suc, ◌+◌, ◌<◌, ◌≤◌, Bool, true, false, cond, ◌&&◌, eqb, ltb, leb, ◌≢◌, ◌⊎◌, List, [], ◌∷◌, ◌++◌, length, get_or, Ok, Err, Result, sym, refl, ap, ◌∙◌, subst, inl, inr, arith}
+use Rattle.std.proofs.Common.{◌≡◌, ℕ, zero, suc, ◌+◌, ◌<◌, ◌≤◌, Bool, true, false, cond, ◌&&◌, eqb, ltb, leb, ◌≢◌, ◌⊎◌, List, [], ◌∷◌, ◌++◌, length, Ok, Err, Result, sym, refl, ap, ◌∙◌, subst, inl, inr, arith}
 use Rattle.std.proofs.lemmas.List.{length_push}
-use Rattle.std.proofs.lemmas.Bool.{ltb-true, ltb-false, lt-ltb, le-ltb, le-leb, lt-leb, leb-true, leb-false, and_from, and_parts, and_cases, cases_Bool, cond-true, cond-false, cond_both}
+use Rattle.std.proofs.lemmas.Bool.{ltb-true, ltb-false, lt-ltb, le-ltb, le-leb, leb-true, leb-false, and_parts, and_cases, cond-true, cond-false, cond_both}
 use Rattle.raft_log.specs.Entries.{last_index, applied_number, values, value_fits, value_appended, commit_raised}
 use Rattle.raft_log.proofs.AppendLaws.{roomy_last, appended_applied}
 use Rattle.raft_log.proofs.LogLaws.{commit_raised_applied}
@@ -10,20 +10,20 @@ use Rattle.solo.specs.declared.header.Role.TheVariants.{Follower, Candidate, Lea
 use Rattle.solo.specs.declared.header.Machine.{Machine}
 use Rattle.solo.specs.declared.proposal.Refusal.{Refusal}
 use Rattle.solo.specs.declared.proposal.Refusal.TheVariants.{NotNow, TooLong, Full}
-use Rattle.solo.specs.Header.{loaded, stored}
+use Rattle.solo.specs.Header.{loaded}
 use Rattle.solo.specs.Power.{powered}
 use Rattle.solo.specs.Election.{most_of, ticked}
 use Rattle.solo.specs.Proposal.{refusal_number, with_unsettled, own_acked, taken, propose_as, proposed}
-use Rattle.solo.proofs.HeaderLaws.{Held, loaded_held, loaded_stored, length_stored, stored_applied}
-use Rattle.together.specs.House.{pick, or, every, propose, how_far, Applied, Far, far, all_in_turn, far_after, by_order, an_order, begins}
-use Rattle.together.specs.Promise.{Event, on, said, tick, next, shows, done, refused, Step, Letter, Ran, ran, runs, one_act, last_since, are_bytes}
+use Rattle.solo.proofs.HeaderLaws.{loaded_held, loaded_stored, length_stored, stored_applied}
+use Rattle.together.specs.House.{pick, or, every, propose, how_far, Far, far, all_in_turn, far_after, by_order, an_order, begins}
+use Rattle.together.specs.Promise.{Event, on, said, tick, next, shows, done, Step, Ran, ran, runs, one_act, are_bytes}
 use Rattle.together.specs.Machine.{answer, go_on, after_proposal, acts, own_step}
 use Rattle.together.specs.Entry.{own}
-use Rattle.whole.proofs.Plans.{runs_event, runs_planned}
+use Rattle.whole.proofs.Plans.{runs_event}
 use Rattle.whole.proofs.Acts.{Long, rest, acts_done, own_planned}
 use Rattle.whole.proofs.Holds.{Holds, holds_decided, holds_later}
-use Rattle.whole.proofs.Going.{made, made_none, made_fine, settled_fine, made_ends, Stable, Going, Rests, Fine, fine_none}
-use Rattle.whole.proofs.Events.{tick_going, taken_going, power_going, stable_later, rests_applied, rests_since}
+use Rattle.whole.proofs.Going.{made, made_fine, settled_fine, made_ends, Stable, Going, Rests, Fine, fine_none}
+use Rattle.whole.proofs.Events.{tick_going, taken_going, power_going, stable_later}
 use Rattle.whole.proofs.Orders.{begins_self, begins_more, order_later, order_more}
 
 -- how what is proposed and the order may grow: the order only where one machine is alone

@@ -1,7 +1,7 @@
 -- One machine alone, in calm: after ten ticks it leads, and then what is proposed is decided and applied at once.
-use Rattle.std.proofs.Common.{◌≡◌, ℕ, zero, suc, ◌+◌, ◌-◌, ◌*◌, ◌<◌, ◌≤◌, Bool, true, false, cond, not, ◌&&◌, eqb, ltb, leb, ◌≢◌, ◌⊎◌, List, [], ◌∷◌, ◌++◌, length, get_or, Ok, Err, sym, refl, ap, ◌∙◌, subst, inl, inr, arith}
+use Rattle.std.proofs.Common.{◌≡◌, ℕ, zero, suc, ◌+◌, ◌*◌, ◌<◌, ◌≤◌, Bool, true, false, not, ◌&&◌, eqb, ltb, leb, ◌⊎◌, List, [], ◌∷◌, ◌++◌, length, Ok, sym, refl, ap, ◌∙◌, subst, inl, inr, arith}
 use Rattle.std.proofs.lemmas.List.{length_push, get_or_push}
-use Rattle.std.proofs.lemmas.Bool.{lt-ltb, le-ltb, le-leb, eq-eqb, eqb-true, and_from, cond-true, cond-false}
+use Rattle.std.proofs.lemmas.Bool.{lt-ltb, le-leb, eq-eqb, eqb-true, and_from}
 use Rattle.raft_log.specs.Values.{value_at}
 use Rattle.raft_log.specs.Entries.{last_index, applied_number, values, decided, value_fits}
 use Rattle.raft_log.proofs.AppendLaws.{roomy_last}
@@ -10,16 +10,16 @@ use Rattle.solo.specs.declared.header.Role.TheVariants.{Follower, Candidate, Lea
 use Rattle.solo.specs.Header.{loaded}
 use Rattle.solo.specs.Election.{ticked}
 use Rattle.solo.specs.Proposal.{taken, proposed}
-use Rattle.together.specs.House.{pick, or, every, any, those, each, same, propose, Applied, applied, Far, far_after, nth_value}
-use Rattle.together.specs.Promise.{Ran, ran, runs, last_since, most, are_bytes, said, tick, Machine, machine_at, set_machine, World, world, flown, Flown, says, ticks, to_whom, event_for, proper, before, thing_ran, after_machine, with_proposal, after_thing, step_of, all_tick, all_come, round, rounds, enough_up, all_got, most_applied, proposing, Takes, Calm}
+use Rattle.together.specs.House.{pick, or, every, any, those, each, same, propose, Applied, applied, far_after, nth_value}
+use Rattle.together.specs.Promise.{Ran, runs, last_since, most, are_bytes, said, tick, Machine, machine_at, set_machine, World, world, flown, Flown, says, ticks, to_whom, event_for, proper, before, thing_ran, after_machine, with_proposal, after_thing, all_tick, all_come, round, rounds, enough_up, all_got, most_applied, proposing, Takes, Calm}
 use Rattle.together.specs.Machine.{acts}
 use Rattle.together.specs.Entry.{own}
 use Rattle.whole.proofs.Plans.{runs_event}
 use Rattle.whole.proofs.Acts.{Long, rest, safe, safe_long, onward, own_planned}
-use Rattle.whole.proofs.Holds.{Holds, holds_decided}
-use Rattle.whole.proofs.Going.{made, made_role, made_first, after_first, Rests, Fine, Going, Stable}
+use Rattle.whole.proofs.Holds.{holds_decided}
+use Rattle.whole.proofs.Going.{made, made_role, made_first, Rests, Fine, Going}
 use Rattle.whole.proofs.Events.{rests_applied, rests_since, tick_going}
-use Rattle.whole.proofs.Runs.{Quiet, on_tick, went_tick, ends_tick, went_fine, grown_none, propose_takes, taken_applied, taken_goes, taken_fine, taken_ends, taken_runs, taken_unsettled}
+use Rattle.whole.proofs.Runs.{on_tick, went_tick, ends_tick, went_fine, grown_none, propose_takes, taken_applied, taken_goes, taken_fine, taken_ends, taken_runs, taken_unsettled}
 use Rattle.whole.proofs.Worlds.{enough, Sound, Good, after_good}
 use Rattle.whole.proofs.Nearer.{left, Leads, nearer}
 use Rattle.whole.proofs.Orders.{same_self, nth_last}

@@ -1,26 +1,26 @@
 -- Memory never grows, nor do its numbers beyond 64 bits.
-use Rattle.std.proofs.Common.{◌≡◌, ℕ, zero, suc, ◌+◌, ◌-◌, ◌*◌, ◌/◌, ◌%◌, ◌<◌, ◌≤◌, Bool, true, false, cond, ◌&&◌, eqb, ltb, leb, List, [], ◌∷◌, ◌++◌, length, get_or, set, replicate, Some, None, Ok, Err, Option, Result, sym, refl, ap, ◌∙◌, subst, arith, lit≤}
+use Rattle.std.proofs.Common.{◌≡◌, ℕ, zero, suc, ◌+◌, ◌-◌, ◌<◌, ◌≤◌, Bool, true, false, ◌&&◌, eqb, ltb, leb, List, [], ◌∷◌, length, get_or, set, Some, None, Ok, Err, Result, refl, ◌∙◌, arith, lit≤}
 use Rattle.std.proofs.lemmas.List.{length-set}
-use Rattle.std.proofs.lemmas.Bool.{ltb-true, ltb-false, lt-ltb, leb-true, and_parts, and_from, cond_both, cond-true}
-use Rattle.raft_log.specs.Layout.{memory_words, at_most, entry_row, value_row}
+use Rattle.std.proofs.lemmas.Bool.{ltb-true, lt-ltb, leb-true, and_parts, and_from, cond_both}
+use Rattle.raft_log.specs.Layout.{memory_words, entry_row, value_row}
 use Rattle.raft_log.specs.Values.{word_of, words_put, words_for, value_put}
-use Rattle.raft_log.specs.Entries.{last_index, commit_index, applied_number, values, decided, entry_put, entry_pushed, value_fits, value_appended, empty_place, empty_fits, empty_appended, commit_rises, commit_raised, applied_set}
+use Rattle.raft_log.specs.Entries.{last_index, commit_index, applied_number, values, decided, entry_pushed, value_fits, value_appended, empty_place, empty_fits, empty_appended, commit_rises, commit_raised, applied_set}
 use Rattle.raft_log.proofs.LogLaws.{last_most, applied_most, number_most}
 use Rattle.solo.specs.declared.header.Ticks.{Ticks}
 use Rattle.solo.specs.declared.header.Role.{Role}
 use Rattle.solo.specs.declared.header.Role.TheVariants.{Follower, Candidate, Leader}
 use Rattle.solo.specs.declared.header.Machine.{Machine}
 use Rattle.solo.specs.declared.proposal.Refusal.{Refusal}
-use Rattle.solo.specs.declared.proposal.Refusal.TheVariants.{NotNow, TooLong, Full}
-use Rattle.solo.specs.Header.{at_least, ticks, machine, role_word, elapsed_word, flag_word, loaded, stored}
+use Rattle.solo.specs.declared.proposal.Refusal.TheVariants.{TooLong, Full}
+use Rattle.solo.specs.Header.{ticks, role_word, elapsed_word, flag_word, loaded, stored}
 use Rattle.solo.specs.Power.{belongs, restarted, powered}
 use Rattle.solo.specs.Election.{older, with_role, in_term, led, campaigned, term_entered, next_term_entered, waited, tick_as, ticked, most_of, owner}
 use Rattle.solo.specs.Proposal.{with_unsettled, own_acked, taken, propose_as, proposed}
 use Rattle.solo.specs.Apply.{settled, applied_up_to, due, advanced}
 use Rattle.solo.proofs.HeaderLaws.{loaded_held, length_stored}
-use Rattle.together.specs.House.{every, Command, propose, how_far}
-use Rattle.together.specs.Promise.{Steady, all_small, Event, on, said, came, tick, next, settle, Step}
-use Rattle.together.specs.Machine.{answer, apply_due, go_on, after_proposal, said_step, own_step, zeros, start}
+use Rattle.together.specs.House.{every, propose, how_far}
+use Rattle.together.specs.Promise.{Steady, all_small, Event, on, said, came, tick, next, settle}
+use Rattle.together.specs.Machine.{answer, apply_due, go_on, after_proposal, own_step, zeros, start}
 use Rattle.together.specs.Entry.{own}
 use Rattle.together.proofs.Lengths.{length_start}
 

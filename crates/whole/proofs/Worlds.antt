@@ -1,14 +1,14 @@
 -- The world's invariant, and that whatever happens keeps it.
-use Rattle.std.proofs.Common.{◌≡◌, ℕ, zero, suc, ◌+◌, ◌<◌, ◌≤◌, Bool, true, false, not, ◌&&◌, eqb, ltb, leb, ◌≢◌, ◌⊎◌, List, [], ◌∷◌, ◌++◌, length, get_or, sym, refl, ap, ◌∙◌, subst, inl, inr, arith}
+use Rattle.std.proofs.Common.{◌≡◌, ℕ, suc, ◌<◌, ◌≤◌, Bool, true, false, ◌&&◌, eqb, ltb, leb, ◌≢◌, List, [], ◌∷◌, ◌++◌, length, sym, refl, ap, ◌∙◌, subst, inl, inr, arith}
 use Rattle.std.proofs.lemmas.Bool.{ltb-true, and_parts, and_from, cases_eq, false≢true}
 use Rattle.solo.specs.Header.{loaded}
-use Rattle.together.specs.House.{every, each, none_of, same, propose, how_far, Far, far, all_in_turn, far_after, by_order, an_order, begins, small_command}
-use Rattle.together.specs.Promise.{on, said, tick, Ran, ran, runs, last_since, are_bytes, Machine, machine_at, set_machine, World, flown, flown_at, Thing, power, says, delivers, ticks, to_whom, event_for, proper, before, thing_ran, after_machine, with_proposal, after_thing, applied_right, may_end}
+use Rattle.together.specs.House.{every, each, none_of, same, propose, how_far, Far, far, all_in_turn, by_order, an_order, begins, small_command}
+use Rattle.together.specs.Promise.{on, Ran, runs, last_since, are_bytes, Machine, machine_at, set_machine, World, flown, flown_at, Thing, power, says, delivers, ticks, to_whom, event_for, proper, before, thing_ran, after_machine, with_proposal, after_thing, applied_right, may_end}
 use Rattle.together.specs.Entry.{own}
 use Rattle.whole.proofs.Kept.{WholeKept, CutKept}
 use Rattle.whole.proofs.Holds.{Holds}
-use Rattle.whole.proofs.Going.{Stable, Going, Rests, Fine}
-use Rattle.whole.proofs.Runs.{Grown, Went, Quiet, went_fine, grown_none, went_power, ends_power, went_tick, ends_tick, went_how_far, shown, went_propose, ends_propose, Ends}
+use Rattle.whole.proofs.Going.{Stable, Rests}
+use Rattle.whole.proofs.Runs.{Went, Quiet, went_fine, grown_none, went_power, ends_power, went_tick, ends_tick, went_how_far, shown, went_propose, ends_propose}
 use Rattle.whole.proofs.Orders.{same_self, at_set_same, at_set_other, length_set_machine}
 
 -- acts that are enough for any event

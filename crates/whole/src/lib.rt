@@ -1,4 +1,6 @@
 //! The main theorem about the machine. No code runs here: a check asks for what the contracts name.
+#![tactic(auto)]
+
 ghost use Rattle.std.specs.Prelude.{false};
 ghost use Rattle.together.specs.Promise.{Steady, Whole};
 ghost use Rattle.together.specs.Entry.{own};

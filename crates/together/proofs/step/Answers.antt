@@ -28,6 +28,6 @@ pub returns-in-4 : goal.returns-in-4
 unfolding ActTold StepSays own event_of own_step
 returns-in-4 c = search (rules, fits_is)
 
-pub returns-in-default : goal.returns-in-default
+pub returns-in_default : goal.returns-in_default
 unfolding ActTold StepSays own event_of own_step
-returns-in-default c = search (rules, fits_is)
+returns-in_default c = search (rules, fits_is)

@@ -49,8 +49,8 @@ returns-in-6 c =
     let k : get_or c.args.bytes.now 0 0 ≡ 6 = search rules in
     record { is = gives (term_notice_of bs) (letter_of bs) bs did.result (kind_6 bs k) did.ensures.is; block = did.ensures.block }
 
-pub returns-in-default : goal.returns-in-default
-returns-in-default c =
+pub returns-in_default : goal.returns-in_default
+returns-in_default c =
     record {
       is = kind_none c.args.bytes.now (λ e. omega arith) (λ e. omega arith) (λ e. omega arith) (λ e. omega arith) (λ e. omega arith) (λ e. omega arith);
       block = tt;

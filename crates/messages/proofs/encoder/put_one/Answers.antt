@@ -5,4 +5,4 @@ use Rattle.messages.proofs.encoder.put_one.Goals as goal
 
 pub returns : goal.returns
 returns c =
-    record { end = refl; put = first_byte c.args.out.now c.put-u64.new.out c.args.kind (eight c.args.first) (omega arith) c.put-u64.ensures }
+    record { end = refl; put = first_byte c.args.out.now c.put_u64.new.out c.args.kind (eight c.args.first) (omega arith) c.put_u64.ensures }

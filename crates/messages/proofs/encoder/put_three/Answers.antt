@@ -7,6 +7,6 @@ pub returns : goal.returns
 returns c =
     record {
       end = refl;
-      put = put_more c.args.out.now c.put-two.new.out c.put-u64.new.out 0 17 (c.args.kind ∷ (eight c.args.first ++ eight c.args.second)) (eight c.args.third) refl (omega arith)
-          c.put-two.ensures.put c.put-u64.ensures;
+      put = put_more c.args.out.now c.put_two.new.out c.put_u64.new.out 0 17 (c.args.kind ∷ (eight c.args.first ++ eight c.args.second)) (eight c.args.third) refl (omega arith)
+          c.put_two.ensures.put c.put_u64.ensures;
     }

@@ -7,6 +7,6 @@ pub returns : goal.returns
 returns c =
     record {
       end = refl;
-      put = put_more c.args.out.now c.put-one.new.out c.put-u64.new.out 0 9 (c.args.kind ∷ eight c.args.first) (eight c.args.second) refl (omega arith)
-          c.put-one.ensures.put c.put-u64.ensures;
+      put = put_more c.args.out.now c.put_one.new.out c.put_u64.new.out 0 9 (c.args.kind ∷ eight c.args.first) (eight c.args.second) refl (omega arith)
+          c.put_one.ensures.put c.put_u64.ensures;
     }

@@ -2,10 +2,10 @@ use Rattle.std.proofs.Common.{rules}
 use Rattle.raft.specs.Election.{campaigned}
 use Rattle.raft.proofs.election.campaign.Goals as goal
 
-pub returns-then-is-most : goal.returns-then-is-most
+pub returns-then-is_most : goal.returns-then-is_most
 unfolding campaigned
-returns-then-is-most c = search rules
+returns-then-is_most c = search rules
 
-pub returns-else-is-most : goal.returns-else-is-most
+pub returns-else-is_most : goal.returns-else-is_most
 unfolding campaigned
-returns-else-is-most c = search rules
+returns-else-is_most c = search rules

@@ -2,10 +2,10 @@ use Rattle.std.proofs.Common.{rules}
 use Rattle.raft.specs.Election.{reminded}
 use Rattle.raft.proofs.election.remind.Goals as goal
 
-pub returns-then-not-knows-leader : goal.returns-then-not-knows-leader
+pub returns-then-not-knows_leader : goal.returns-then-not-knows_leader
 unfolding reminded
-returns-then-not-knows-leader c = search rules
+returns-then-not-knows_leader c = search rules
 
-pub returns-else-not-knows-leader : goal.returns-else-not-knows-leader
+pub returns-else-not-knows_leader : goal.returns-else-not-knows_leader
 unfolding reminded
-returns-else-not-knows-leader c = search rules
+returns-else-not-knows_leader c = search rules

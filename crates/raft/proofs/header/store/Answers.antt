@@ -1,4 +1,3 @@
-use Rattle.std.proofs.Common.{rules}
 use Rattle.raft.specs.Header.{stored}
 use Rattle.raft.proofs.header.store.Goals as goal
 

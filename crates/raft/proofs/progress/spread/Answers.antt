@@ -6,10 +6,10 @@ pub returns-then-commit-committed : goal.returns-then-commit-committed
 unfolding spread
 returns-then-commit-committed c = search rules
 
-pub returns-then-next-index-last-index : goal.returns-then-next-index-last-index
+pub returns-then-next_index-last_index : goal.returns-then-next_index-last_index
 unfolding spread
-returns-then-next-index-last-index c = search rules
+returns-then-next_index-last_index c = search rules
 
-pub returns-else-next-index-last-index : goal.returns-else-next-index-last-index
+pub returns-else-next_index-last_index : goal.returns-else-next_index-last_index
 unfolding spread
-returns-else-next-index-last-index c = search rules
+returns-else-next_index-last_index c = search rules

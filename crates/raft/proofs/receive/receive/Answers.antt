@@ -2,9 +2,9 @@ use Rattle.std.proofs.Common.{rules}
 use Rattle.raft.specs.Receive.{received}
 use Rattle.raft.proofs.receive.receive.Goals as goal
 
-pub returns-in-default : goal.returns-in-default
+pub returns-in_default : goal.returns-in_default
 unfolding received
-returns-in-default c = search rules
+returns-in_default c = search rules
 
 pub returns-then-from-machine : goal.returns-then-from-machine
 unfolding received

@@ -1,5 +1,5 @@
 use Rattle.std.proofs.Common.{◌≡◌}
-use Rattle.raft.specs.Rows.{row_put, only, others}
+use Rattle.raft.specs.Rows.{row_put}
 use Rattle.raft.proofs.rows.set_all.Given as goal
 
 abbrev pub invariant-loop-j : goal.invariant-loop-j

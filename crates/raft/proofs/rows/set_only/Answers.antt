@@ -1,5 +1,5 @@
 use Rattle.std.proofs.Common.{◌≡◌, refl, arith}
-use Rattle.raft.specs.Rows.{row_put, only, others}
+use Rattle.raft.specs.Rows.{row_put, only}
 use Rattle.raft.proofs.RowLaws.{row_put_more}
 use Rattle.raft.proofs.rows.set_only.Goals as goal
 

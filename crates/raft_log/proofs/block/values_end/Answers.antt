@@ -12,5 +12,5 @@ loop-k-preserved c = (
   omega arith,
 )
 
-pub returns-then-entry-code-gt-MAX-CODE : goal.returns-then-entry-code-gt-MAX-CODE
-returns-then-entry-code-gt-MAX-CODE c = codes_fit_stop c.args.block.now c.args.count c.loop-k.k (omega arith) (omega arith)
+pub returns-then-entry_code-gt-MAX_CODE : goal.returns-then-entry_code-gt-MAX_CODE
+returns-then-entry_code-gt-MAX_CODE c = codes_fit_stop c.args.block.now c.args.count c.loop-k.k (omega arith) (omega arith)

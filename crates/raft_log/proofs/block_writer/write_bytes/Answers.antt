@@ -7,6 +7,6 @@ use Rattle.raft_log.proofs.block_writer.write_bytes.Goals as goal
 pub returns-then-count-gt0 : goal.returns-then-count-gt0
 returns-then-count-gt0 c =
     let e : 8 * (c.args.count / 8) + c.args.count % 8 ≡ c.args.count = omega arith in
-    words_more c.args.memory.now c.args.out.now c.write-words.new.out c.write-part.new.out c.args.base c.args.at (c.args.count / 8)
-    (c.args.count % 8) (omega arith) (omega arith) c.write-words.ensures c.write-part.ensures
+    words_more c.args.memory.now c.args.out.now c.write_words.new.out c.write_part.new.out c.args.base c.args.at (c.args.count / 8)
+    (c.args.count % 8) (omega arith) (omega arith) c.write_words.ensures c.write_part.ensures
     ∙ ap (λ n. laid c.args.out.now c.args.at (bytes_at c.args.memory.now c.args.base n)) e

@@ -4,6 +4,6 @@ use Rattle.raft_log.proofs.block_writer.write_slot.Goals as goal
 
 pub returns : goal.returns
 returns c =
-    let p = slot_put c.args.memory.now c.args.out.now c.write-bytes.new.out c.args.slot c.value-length-count.result c.args.at
-    c.value-length-count.ensures.is c.write-bytes.ensures in
+    let p = slot_put c.args.memory.now c.args.out.now c.write_bytes.new.out c.args.slot c.value_length-count.result c.args.at
+    c.value_length-count.ensures.is c.write_bytes.ensures in
     record { end = p.end_is; short = omega arith; put = p.is }

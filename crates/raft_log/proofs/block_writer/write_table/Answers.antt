@@ -7,8 +7,8 @@ loop-i-init c = table_none c.args.memory.now c.args.out.now c.args.first.0 c.arg
 
 pub loop-i-preserved : goal.loop-i-preserved
 loop-i-preserved c =
-    table_more c.args.memory.now c.args.out.now c.loop-i.out c.write-row.new.out c.args.first.0 c.args.at c.loop-i.i
-    (omega arith) c.loop-i.invariant c.write-row.ensures
+    table_more c.args.memory.now c.args.out.now c.loop-i.out c.write_row.new.out c.args.first.0 c.args.at c.loop-i.i
+    (omega arith) c.loop-i.invariant c.write_row.ensures
 
 pub returns : goal.returns
 returns c = let w : c.loop-i.i ≡ c.args.count = omega arith in cc

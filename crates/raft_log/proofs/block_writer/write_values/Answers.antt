@@ -7,8 +7,8 @@ loop-i-init c = (values_none c.args.memory.now c.args.out.now c.args.first.0 c.a
 
 pub loop-i-preserved : goal.loop-i-preserved
 loop-i-preserved c = (
-  values_more c.args.memory.now c.args.out.now c.loop-i.out c.write-content-end.new.out c.args.first.0 c.args.at c.loop-i.i c.loop-i.end c.write-content-end.result
-      (omega arith) c.loop-i.invariant.0 (record { end_is = c.write-content-end.ensures.end; is = c.write-content-end.ensures.put }),
+  values_more c.args.memory.now c.args.out.now c.loop-i.out c.write_content-end.new.out c.args.first.0 c.args.at c.loop-i.i c.loop-i.end c.write_content-end.result
+      (omega arith) c.loop-i.invariant.0 (record { end_is = c.write_content-end.ensures.end; is = c.write_content-end.ensures.put }),
   omega arith,
 )
 

@@ -10,8 +10,8 @@ loop-j-init c = words_none c.args.memory.now c.args.out.now c.args.base c.args.a
 pub loop-j-preserved : goal.loop-j-preserved
 loop-j-preserved c =
     let e : 8 * c.loop-j.j + 8 ≡ 8 * (c.loop-j.j + 1) = omega arith in
-    words_more c.args.memory.now c.args.out.now c.loop-j.out c.put-u64.new.out c.args.base c.args.at c.loop-j.j 8
-    (omega arith) (omega arith) c.loop-j.invariant c.put-u64.ensures
+    words_more c.args.memory.now c.args.out.now c.loop-j.out c.put_u64.new.out c.args.base c.args.at c.loop-j.j 8
+    (omega arith) (omega arith) c.loop-j.invariant c.put_u64.ensures
     ∙ ap (λ n. laid c.args.out.now c.args.at (bytes_at c.args.memory.now c.args.base n)) e
 
 pub returns : goal.returns

@@ -2,5 +2,5 @@ use Rattle.std.proofs.Common.{◌≤◌, length, arith}
 use Rattle.std.proofs.lemmas.List.{get_or_past}
 use Rattle.raft_log.proofs.values.byte_or_zero.Goals as goal
 
-pub returns_else_i_bytes : goal.returns_else_i_bytes
-returns_else_i_bytes c = let h : length c.args.bytes.now ≤ c.args.i = omega arith in rw get_or_past
+pub returns-else-i-bytes : goal.returns-else-i-bytes
+returns-else-i-bytes c = let h : length c.args.bytes.now ≤ c.args.i = omega arith in rw get_or_past

@@ -9,7 +9,7 @@ loop-j-init c = refl
 
 pub loop-j-preserved : goal.loop-j-preserved
 loop-j-preserved c =
-    let e = words_put_more (set c.args.memory.now c.row-of-row.result (length c.args.bytes.now)) (c.row-of-row.result + 1) c.args.bytes.now c.loop-j.j in
+    let e = words_put_more (set c.args.memory.now c.row_of-row.result (length c.args.bytes.now)) (c.row_of-row.result + 1) c.args.bytes.now c.loop-j.j in
     cc
 
 pub returns : goal.returns

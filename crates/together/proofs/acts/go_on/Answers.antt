@@ -7,9 +7,9 @@ pub returns-then-machine : goal.returns-then-machine
 unfolding ActTold go_on
 returns-then-machine c = search rules
 
-pub returns-in-default : goal.returns-in-default
+pub returns-in_default : goal.returns-in_default
 unfolding ActTold go_on
-returns-in-default c = search rules
+returns-in_default c = search rules
 
 pub returns : goal.returns
 unfolding ActTold go_on

@@ -6,10 +6,10 @@ pub returns-then-size-eq0 : goal.returns-then-size-eq0
 unfolding vote_result
 returns-then-size-eq0 c = search rules
 
-pub returns-then-saturating-sub-half : goal.returns-then-saturating-sub-half
+pub returns-then-saturating_sub-half : goal.returns-then-saturating_sub-half
 unfolding vote_result
-returns-then-saturating-sub-half c = search rules
+returns-then-saturating_sub-half c = search rules
 
-pub returns-else-saturating-sub-half : goal.returns-else-saturating-sub-half
+pub returns-else-saturating_sub-half : goal.returns-else-saturating_sub-half
 unfolding vote_result
-returns-else-saturating-sub-half c = search rules
+returns-else-saturating_sub-half c = search rules

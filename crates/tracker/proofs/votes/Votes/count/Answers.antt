@@ -19,4 +19,4 @@ returns c =
     let short : min c.args.size (length c.args.self.now.answers) ≡ c.min.result - 0 = omega arith in
     let e : take (c.min.result - 0) c.args.self.now.answers ≡ take c.args.size c.args.self.now.answers =
     subst (λ (k : ℕ). take k c.args.self.now.answers ≡ take c.args.size c.args.self.now.answers) short (take_min c.args.size c.args.self.now.answers) in
-    c.count-answers.ensures ∙ ap (λ (as₁ : List _). count_by (answers_so c.args.granted) as₁) e
+    c.count_answers.ensures ∙ ap (λ (as₁ : List _). count_by (answers_so c.args.granted) as₁) e
