@@ -1,9 +1,9 @@
 -- What is right with calm is right without.
-use Rattle.std.proofs.Common.{Bool, true, false, eqb, List, [], ◌∷◌, refl}
-use Rattle.together.specs.Promise.{Engine, World, Item, whole, cut, Right, Whole, CalmMore, thing_ran, after_thing}
+use Rattle.std.proofs.Common.{Bool, true, false, List, [], ◌∷◌, refl}
+use Rattle.together.specs.Promise.{Engine, World, Item, whole, cut, Right, thing_ran, after_thing}
 
 -- with calm promised always, it is promised whenever it is asked for
-right_less : (calm : Bool) (e : Engine) (w : World) (is : List Item) → Right true e w is → Right calm e w is
+pub right_less : (calm : Bool) (e : Engine) (w : World) (is : List Item) → Right true e w is → Right calm e w is
 unfolding Right
 right_less calm e w [] r = λ asked. r refl
 right_less calm e w (whole t ∷ is) r = (
@@ -18,7 +18,3 @@ right_less calm e w (cut t n ∷ is) r = (
       let h = r.1 fit in
       (h.0, h.1, right_less calm e (after_thing w t (thing_ran n e w t) false h.0) is h.2)),
 )
-
-pub calm_more : CalmMore
-unfolding CalmMore Whole
-calm_more e h = (h.0, λ many is low high long. right_less (eqb many 1) e _ is (h.1 many is low high long))

@@ -3,3 +3,4 @@ pub mod Quorum
 pub mod Turn
 pub mod Calm
 pub mod Near
+pub mod Theorems

@@ -1,10 +1,9 @@
 -- Majorities: two of them have a machine in common, and one of one machine is that machine.
 use Rattle.std.proofs.Common.{◌≡◌, ℕ, zero, suc, ◌<◌, ◌≤◌, Bool, true, false, not, eqb, ltb, ◌≢◌, List, [], ◌∷◌, ◌++◌, length, sym, refl, ap, ◌∙◌, subst, arith}
-use Rattle.std.proofs.lemmas.List.{length-append}
-use Rattle.std.proofs.lemmas.Bool.{and_parts, and_from, eqb-true, eqb-false, ltb-true, lt-ltb, not-true, not_from_false}
+use Rattle.std.proofs.lemmas.Bool.{and_parts, and_from, eqb-true, eqb-false, ltb-true, lt-ltb, not-true, not_from_false, false≢true, eq-eqb}
 use Rattle.together.specs.House.{every, any, those, pick, all_apart}
-use Rattle.together.specs.Promise.{TwoHalves, Alone}
-use Rattle.together.proofs.Lists.{or_neither, every_append, any_append, any_those}
+use Rattle.together.specs.Promise.{Alone}
+use Rattle.together.proofs.Lists.{or_neither, any_append, any_those}
 
 -- all but n
 abbrev without : ℕ → List ℕ → List ℕ
@@ -31,7 +30,7 @@ apart_those p (x ∷ xs) h =
     go true new rest = apart_from x (those p xs) new rest
     go false new rest = rest
 
-apart_append : (xs ys : List ℕ) → all_apart xs ≡ true → all_apart ys ≡ true → any (λ x. any (eqb x) ys) xs ≡ false → all_apart (xs ++ ys) ≡ true
+pub apart_append : (xs ys : List ℕ) → all_apart xs ≡ true → all_apart ys ≡ true → any (λ x. any (eqb x) ys) xs ≡ false → all_apart (xs ++ ys) ≡ true
 unfolding any
 apart_append [] ys h k none = k
 apart_append (x ∷ xs) ys h k none =
@@ -75,26 +74,12 @@ length_without n (x ∷ xs) h =
     go false e new rest = omega arith
 
 -- below n there are at most n numbers that are all apart
-at_most : (n : ℕ) (xs : List ℕ) → all_apart xs ≡ true → every (λ x. ltb x n) xs ≡ true → length xs ≤ n
+pub at_most : (n : ℕ) (xs : List ℕ) → all_apart xs ≡ true → every (λ x. ltb x n) xs ≡ true → length xs ≤ n
 unfolding every
 at_most zero [] apart below = omega arith
 at_most zero (x ∷ xs) apart below = absurd (omega (arith, ltb-true x 0 (and_parts (ltb x 0) (every (λ z. ltb z 0) xs) below).0))
 at_most (suc n) xs apart below =
     omega (arith, length_without n xs apart, at_most n (without n xs) (apart_those (λ x. not (eqb n x)) xs apart) (below_without n xs below))
-
-pub two_halves : TwoHalves
-unfolding TwoHalves
-two_halves xs ys n apart-x apart-y below-x below-y more-x more-y = go (any (λ x. any (eqb x) ys) xs) refl
-  where
-    go : (t : Bool) → any (λ x. any (eqb x) ys) xs ≡ t → t ≡ true
-    go true e = refl
-    go false e =
-        absurd
-        (omega (
-          arith,
-          at_most n (xs ++ ys) (apart_append xs ys apart-x apart-y e) (every_append (λ x. ltb x n) xs ys below-x below-y),
-          length-append xs ys,
-        ))
 
 pub alone : Alone
 unfolding Alone every any
@@ -103,4 +88,9 @@ alone (x ∷ []) apart below more =
     let low : x < 1 = ltb-true x 1 (and_parts (ltb x 1) true below).0 in
     let zero_is : x ≡ 0 = omega arith in
     ap (λ n. n ∷ []) zero_is
-alone (x ∷ y ∷ ys) apart below more = absurd (omega (arith, at_most 1 (x ∷ y ∷ ys) apart below))
+alone (x ∷ y ∷ ys) apart below more =
+    let parts = and_parts (ltb x 1) (every (λ z. ltb z 1) (y ∷ ys)) below in
+    let first : x < 1 = ltb-true x 1 parts.0 in
+    let second : y < 1 = ltb-true y 1 (and_parts (ltb y 1) (every (λ z. ltb z 1) ys) parts.1).0 in
+    let other = or_neither (eqb x y) (any (eqb x) ys) (apart_parts x (y ∷ ys) apart).0 in
+    absurd (false≢true (sym other.0 ∙ eq-eqb x y (omega arith)))

@@ -1,12 +1,11 @@
 -- What is applied in turn has no gap.
 use Rattle.std.proofs.Common.{◌≡◌, ℕ, suc, ◌<◌, ◌≤◌, Bool, true, false, eqb, ltb, leb, ◌⊎◌, List, [], ◌∷◌, refl, inl, inr, arith}
 use Rattle.std.proofs.lemmas.Bool.{and_parts, leb-true, ltb-true, ltb-false, eqb-true, eq-eqb, cases_lt}
-use Rattle.together.specs.House.{pick, any, Applied, Far, far, next_ok, may_apply, larger, got_to, all_in_turn, far_after}
-use Rattle.together.specs.Promise.{NoGap}
+use Rattle.together.specs.House.{pick, any, Applied, Far, next_ok, may_apply, larger, got_to, all_in_turn, far_after}
 use Rattle.together.proofs.Lists.{or_left, or_right}
 
 -- since power came a machine has got no further than ever
-unfoldable Within : ℕ → List ℕ → Type 0
+unfoldable pub Within : ℕ → List ℕ → Type 0
 Within ever [] = Unit {0}
 Within ever (k ∷ ks) = k ≤ ever
 
@@ -23,7 +22,7 @@ larger_is a b = go (ltb a b) refl
     go false h = (omega arith, ltb-false a b h, inl refl)
 
 -- whatever lies above how far a machine had got, and no further than it gets, is applied
-all_applied : (f : Far) (as₁ : List Applied) (k : ℕ) → Within f.ever f.since → all_in_turn f as₁ ≡ true → f.ever < k → k ≤ (far_after f as₁).ever → any (λ a. eqb a.index k) as₁ ≡ true
+pub all_applied : (f : Far) (as₁ : List Applied) (k : ℕ) → Within f.ever f.since → all_in_turn f as₁ ≡ true → f.ever < k → k ≤ (far_after f as₁).ever → any (λ a. eqb a.index k) as₁ ≡ true
 unfolding all_in_turn far_after any Within
 all_applied f [] k w h low high = absurd (omega arith)
 all_applied f (a ∷ as₁) k w h low high =
@@ -38,7 +37,3 @@ all_applied f (a ∷ as₁) k w h low high =
     reached : k ≤ larger f.ever a.index → (larger f.ever a.index ≡ f.ever) ⊎ (larger f.ever a.index ≡ a.index) → a.index ≡ k
     reached here (inl e) = absurd (omega arith)
     reached here (inr e) = omega (arith, next_near f.ever f.since a.index w (and_parts (may_apply f a.index) (all_in_turn (got_to f a.index) as₁) h).0)
-
-pub no_gap : NoGap
-unfolding NoGap Within
-no_gap as₁ k turn low high = all_applied (far 0 []) as₁ k tt turn (omega arith) high

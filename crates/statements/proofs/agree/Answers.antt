@@ -1,4 +1,4 @@
-use Rattle.statements.proofs.Order.{agree}
+use Rattle.statements.proofs.Theorems.{agree}
 use Rattle.statements.proofs.agree.Goals as goal
 
 pub returns : goal.returns

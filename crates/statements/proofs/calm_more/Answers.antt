@@ -1,4 +1,4 @@
-use Rattle.statements.proofs.Calm.{calm_more}
+use Rattle.statements.proofs.Theorems.{calm_more}
 use Rattle.statements.proofs.calm_more.Goals as goal
 
 pub returns : goal.returns

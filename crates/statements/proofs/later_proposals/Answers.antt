@@ -1,4 +1,4 @@
-use Rattle.statements.proofs.Order.{later_proposals}
+use Rattle.statements.proofs.Theorems.{later_proposals}
 use Rattle.statements.proofs.later_proposals.Goals as goal
 
 pub returns : goal.returns

@@ -1,4 +1,4 @@
-use Rattle.statements.proofs.Turn.{no_gap}
+use Rattle.statements.proofs.Theorems.{no_gap}
 use Rattle.statements.proofs.no_gap.Goals as goal
 
 pub returns : goal.returns

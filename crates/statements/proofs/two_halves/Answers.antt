@@ -1,4 +1,4 @@
-use Rattle.statements.proofs.Quorum.{two_halves}
+use Rattle.statements.proofs.Theorems.{two_halves}
 use Rattle.statements.proofs.two_halves.Goals as goal
 
 pub returns : goal.returns
