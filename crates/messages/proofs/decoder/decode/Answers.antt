@@ -10,44 +10,38 @@ returns-then-bytes-eq0 c = record { is = empty_none c.args.bytes.now (omega arit
 pub returns-in-1 : goal.returns-in-1
 returns-in-1 c =
     let bs = c.args.bytes.now in
-    let did = c.append in
     let k : get_or c.args.bytes.now 0 0 ≡ 1 = search rules in
-    record { is = gives (append_of bs) (letter_of bs) bs did.result (kind_1 bs k) did.ensures.is; block = did.ensures.block }
+    record { is = gives (append_of bs) (letter_of bs) bs _ (kind_1 bs k) (search rules); block = search rules }
 
 pub returns-in-2 : goal.returns-in-2
 returns-in-2 c =
     let bs = c.args.bytes.now in
-    let did = c.append_response in
     let k : get_or c.args.bytes.now 0 0 ≡ 2 = search rules in
-    record { is = gives (append_response_of bs) (letter_of bs) bs did.result (kind_2 bs k) did.ensures.is; block = did.ensures.block }
+    record { is = gives (append_response_of bs) (letter_of bs) bs _ (kind_2 bs k) (search rules); block = search rules }
 
 pub returns-in-3 : goal.returns-in-3
 returns-in-3 c =
     let bs = c.args.bytes.now in
-    let did = c.append_reject in
     let k : get_or c.args.bytes.now 0 0 ≡ 3 = search rules in
-    record { is = gives (append_reject_of bs) (letter_of bs) bs did.result (kind_3 bs k) did.ensures.is; block = did.ensures.block }
+    record { is = gives (append_reject_of bs) (letter_of bs) bs _ (kind_3 bs k) (search rules); block = search rules }
 
 pub returns-in-4 : goal.returns-in-4
 returns-in-4 c =
     let bs = c.args.bytes.now in
-    let did = c.request_vote in
     let k : get_or c.args.bytes.now 0 0 ≡ 4 = search rules in
-    record { is = gives (request_vote_of bs) (letter_of bs) bs did.result (kind_4 bs k) did.ensures.is; block = did.ensures.block }
+    record { is = gives (request_vote_of bs) (letter_of bs) bs _ (kind_4 bs k) (search rules); block = search rules }
 
 pub returns-in-5 : goal.returns-in-5
 returns-in-5 c =
     let bs = c.args.bytes.now in
-    let did = c.request_vote_response in
     let k : get_or c.args.bytes.now 0 0 ≡ 5 = search rules in
-    record { is = gives (request_vote_response_of bs) (letter_of bs) bs did.result (kind_5 bs k) did.ensures.is; block = did.ensures.block }
+    record { is = gives (request_vote_response_of bs) (letter_of bs) bs _ (kind_5 bs k) (search rules); block = search rules }
 
 pub returns-in-6 : goal.returns-in-6
 returns-in-6 c =
     let bs = c.args.bytes.now in
-    let did = c.term_notice in
     let k : get_or c.args.bytes.now 0 0 ≡ 6 = search rules in
-    record { is = gives (term_notice_of bs) (letter_of bs) bs did.result (kind_6 bs k) did.ensures.is; block = did.ensures.block }
+    record { is = gives (term_notice_of bs) (letter_of bs) bs _ (kind_6 bs k) (search rules); block = search rules }
 
 pub returns-in_default : goal.returns-in_default
 returns-in_default c =
