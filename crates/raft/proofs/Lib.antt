@@ -2,3 +2,4 @@ pub mod RowLaws
 pub mod Quorum
 pub mod HeaderLaws
 pub mod Parts
+pub mod Mails

@@ -1,5 +1,5 @@
 -- What a letter does: one of a higher term is entered first, one of a lower term is told the own, and one of the own term is handled by the machine's role.
-use Rattle.std.specs.Prelude.{ℕ, ◌+◌, Bool, true, false, cond, not, ◌&&◌, ◌||◌, List, length, is_some, nat_le, nat_lt}
+use Rattle.std.specs.Prelude.{ℕ, ◌+◌, Bool, true, false, cond, not, ◌&&◌, ◌||◌, ◌==◌, List, length, is_some, nat_le, nat_lt}
 use Rattle.std.proofs.Math.Option.{Option, none, some}
 use Rattle.raft_log.specs.Block.{Entry}
 use Rattle.raft_log.specs.View.{log_of}
@@ -97,3 +97,15 @@ letter_taken m x f (some l) = cond (nat_lt f x.size.0) (taken_by_term m x f l) m
 
 unfoldable pub received : List ℕ → ℕ → Option Letter → List ℕ
 received m f l = letter_taken m (loaded m) f l
+
+-- is f another machine of the cluster?
+abbrev pub another : Machine → ℕ → Bool
+another x f = nat_lt f x.size.0 && not (f == x.id.0)
+
+-- memory after a letter came that is taken from another machine alone
+abbrev pub letter_from : List ℕ → Machine → ℕ → Option Letter → List ℕ
+letter_from m x f none = m
+letter_from m x f (some l) = cond (another x f) (taken_by_term m x f l) m
+
+unfoldable pub received_from_another : List ℕ → ℕ → Option Letter → List ℕ
+received_from_another m f l = letter_from m (loaded m) f l

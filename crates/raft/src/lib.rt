@@ -5,6 +5,7 @@ pub mod apply;
 pub mod commit;
 pub mod election;
 pub mod header;
+pub mod outbox;
 pub mod power;
 pub mod progress;
 pub mod proposal;

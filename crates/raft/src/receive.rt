@@ -8,7 +8,7 @@ ghost use Rattle.raft_log.specs.Conflict.{is_up_to_date};
 ghost use Rattle.messages.specs.Letter.{letter_of};
 ghost use Rattle.messages.specs.Message.{letter_in, HasBlock};
 ghost use Rattle.raft.specs.Election.{vote_due};
-ghost use Rattle.raft.specs.Receive.{letter_term, heard_from, log_changes, append_taken, append_as, request_as, vote_as, response_as, reject_as, handle_with, handled, old_taken, taken_by_term, received};
+ghost use Rattle.raft.specs.Receive.{letter_term, heard_from, log_changes, append_taken, append_as, request_as, vote_as, response_as, reject_as, handle_with, handled, old_taken, taken_by_term, received, another, received_from_another};
 
 use super::election::{enter_term, take_vote};
 use super::header::{Machine, Role, Ticks, load, store};
@@ -259,6 +259,26 @@ pub fn receive(memory: &mut [u64], from: MachineId, bytes: &[u8])
     };
     let machine = load(memory);
     if from.0 < machine.size.0 {
+        take_by_term(memory, machine, from, message, bytes);
+    }
+}
+
+fn another(machine: Machine, from: MachineId) -> bool
+    ensures { result ≡ another machine from.0 }
+{
+    from.0 < machine.size.0 && from.0 != machine.id.0
+}
+
+/// A letter has come from a machine; bytes that are no letter, and a sender that is none of the others, change nothing.
+pub fn receive_from_another(memory: &mut [u64], from: MachineId, bytes: &[u8])
+    requires { length memory.old ≡ memory_words }
+    ensures { memory.new ≡ received_from_another memory.old from.0 (letter_of bytes.now) }
+{
+    let Some(message) = decode(bytes) else {
+        return;
+    };
+    let machine = load(memory);
+    if another(machine, from) {
         take_by_term(memory, machine, from, message, bytes);
     }
 }
