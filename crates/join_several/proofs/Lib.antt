@@ -1,0 +1,15 @@
+pub mod Acks
+pub mod Answered
+pub mod Appends
+pub mod Commits
+pub mod Elections
+pub mod Frames
+pub mod Leads
+pub mod Lifts
+pub mod Outs
+pub mod Powers
+pub mod Proposals
+pub mod Requests
+pub mod Ticks
+pub mod Votes
+pub mod Received
