@@ -1,15 +1,20 @@
-//! Times parts of the library on large inputs: `bench run`. Figures differ from run to run, so without that word it times nothing and prints nothing to compare.
+//! Times parts of the library on large inputs, `bench run`, and machines that decide together, `bench clusters`. Figures differ from run to run, so without a word it times nothing and prints nothing to compare.
 #![tactic(auto)]
 
 mod appends;
+mod clusters;
 mod conflicts;
+mod events;
 mod halves;
 mod letters;
 mod timing;
 
+use crate::timing::Work;
 use anyhow::anyhow;
 use appends::{Append, ReadBack};
+use clusters::Cluster;
 use conflicts::{Conflict, Hint};
+use events::{Event, Kind};
 use halves::Half;
 use letters::{Copying, Decode, Encode, Take};
 use std::env;
@@ -62,20 +67,88 @@ fn time_halves(rt: &HostRuntime) -> anyhow::Result<()> {
     Ok(())
 }
 
+// Decisions a second in the best round, and the letters of a round.
+fn time_cluster(
+    rt: &HostRuntime,
+    name: &'static str,
+    size: u64,
+    window: u64,
+) -> anyhow::Result<()> {
+    let mut cluster = Cluster::new(rt.alloc(), name, size, window)?;
+    let timing = report(rt, &mut cluster)?;
+    let second = cluster.operations().saturating_mul(1_000_000_000);
+    println!(rt;
+        "  {} decisions a second (middle {}), {} letters",
+        second / timing.best.max(1),
+        second / timing.middle.max(1),
+        cluster.letters()
+    )?;
+    Ok(())
+}
+
+fn time_clusters(rt: &HostRuntime) -> anyhow::Result<()> {
+    time_cluster(rt, "1 machine, 1 at a time", 1, 1)?;
+    time_cluster(rt, "1 machine, 16 at a time", 1, 16)?;
+    time_cluster(rt, "3 machines, 1 at a time", 3, 1)?;
+    time_cluster(rt, "3 machines, 16 at a time", 3, 16)?;
+    time_cluster(rt, "5 machines, 1 at a time", 5, 1)?;
+    time_cluster(rt, "5 machines, 16 at a time", 5, 16)
+}
+
+fn time_event(
+    rt: &HostRuntime,
+    name: &'static str,
+    kind: Kind,
+    entries: u64,
+) -> anyhow::Result<()> {
+    report(rt, &mut Event::new(rt.alloc(), name, kind, entries)?)?;
+    Ok(())
+}
+
+fn time_events(rt: &HostRuntime) -> anyhow::Result<()> {
+    time_event(rt, "tick at 10 entries", Kind::Tick, 10)?;
+    time_event(rt, "tick at 4,000 entries", Kind::Tick, 4000)?;
+    time_event(rt, "proposal at 10 entries", Kind::Proposal, 10)?;
+    time_event(rt, "proposal at 4,000 entries", Kind::Proposal, 4000)?;
+    time_event(
+        rt,
+        "acknowledgement at 10 entries",
+        Kind::Acknowledgement,
+        10,
+    )?;
+    time_event(
+        rt,
+        "acknowledgement at 4,000 entries",
+        Kind::Acknowledgement,
+        4000,
+    )
+}
+
+fn time_parts(rt: &HostRuntime) -> anyhow::Result<()> {
+    time_values(rt)?;
+    time_conflicts(rt)?;
+    time_letters(rt)?;
+    time_halves(rt)
+}
+
+fn time_machines(rt: &HostRuntime) -> anyhow::Result<()> {
+    time_clusters(rt)?;
+    time_events(rt)
+}
+
 fn run(rt: &HostRuntime) -> anyhow::Result<()> {
     let mut args = env::args(rt)?;
     let _program = args.next();
     let Some(word) = args.next() else {
         eprintln!(rt; "bench run: times parts of the library")?;
+        eprintln!(rt; "bench clusters: times machines that decide together")?;
         return Ok(());
     };
-    if word.as_str() != "run" {
-        return Err(anyhow!("the word is run"));
+    match word.as_str() {
+        "run" => time_parts(rt),
+        "clusters" => time_machines(rt),
+        _ => Err(anyhow!("the word is run or clusters")),
     }
-    time_values(rt)?;
-    time_conflicts(rt)?;
-    time_letters(rt)?;
-    time_halves(rt)
 }
 
 fn main(rt: HostRuntime) -> anyhow::Result<()> {

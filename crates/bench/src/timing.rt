@@ -12,6 +12,9 @@ pub trait Work {
 
     fn operations(&self) -> u64;
 
+    /// What comes before a round and is not timed.
+    fn prepare(&mut self) {}
+
     fn round(&mut self) -> u64;
 }
 
@@ -24,6 +27,7 @@ pub struct Timing {
 }
 
 fn time_round<W: Work>(rt: &HostRuntime, work: &mut W) -> anyhow::Result<u64> {
+    work.prepare();
     let start = Instant::now(rt)?;
     let right = work.round();
     let nanos = start.elapsed(rt)?.as_nanos();
