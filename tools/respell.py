@@ -19,8 +19,8 @@ ALIAS = re.compile(r"(?<=\s)as +([^\s(){}.;,@\"«»:]+)(?=[,}])")
 GOAL = re.compile(r":\s*(?:goal|need|tie|given)\.")
 KEYWORDS = {"pub", "abbrev", "unfoldable", "let", "use", "mod", "record", "data", "in", "where", "module"}
 
-# Names that would fall together with a field, a constant or another name: what they are called instead.
-OVERRIDES = {}
+# Names that the rule below does not read: one that ends in an operator, and a type that the kit's script took for a word.
+OVERRIDES = {"with-content-++": "with_content-++", "Goes_on": "GoesOn"}
 
 
 def files(top, ends):
@@ -54,7 +54,7 @@ def names_of(path, text):
     found = set()
     for m in DECLARED.finditer(text):
         line = text[m.start() : text.find("\n", m.start())]
-        if GOAL.search(line):
+        if GOAL.search(line) or "=" in m.group(1).split():
             continue
         for w in m.group(1).split():
             if w not in KEYWORDS:
@@ -74,7 +74,7 @@ def table(top):
                 own.update(m.group(1) for m in ALIAS.finditer(line))
     turns = {}
     for name in own:
-        if ("-" in name or "′" in name or name in OVERRIDES) and re.match(r"^[A-Za-z][\w'′-]*$", name):
+        if name in OVERRIDES or ("-" in name or "′" in name) and re.match(r"^[A-Za-z][\w'′-]*$", name):
             new = respelled(name)
             if new != name:
                 turns[name] = new

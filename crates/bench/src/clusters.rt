@@ -1,11 +1,10 @@
 //! Clusters in one process: letters as bytes from one machine's `step` to another's, nothing on disk. They elect machine 1 % size and decide values of 16 bytes.
 use crate::timing::Work;
+use messages::MAX_LETTER_BYTES;
 use std::alloc::{AllocError, Global};
 use std::mem;
 use together::Told;
 use together_several::{MEMORY_WORDS, step};
-
-const LETTER_BYTES: usize = 4096;
 
 const VALUE: [u8; 16] = [7; 16];
 
@@ -82,7 +81,7 @@ impl Machine {
         Ok(Machine {
             id,
             memory: vec![in heap; 0; MEMORY_WORDS]?,
-            out: vec![in heap; 0; LETTER_BYTES]?,
+            out: vec![in heap; 0; MAX_LETTER_BYTES]?,
             applied: 0,
         })
     }

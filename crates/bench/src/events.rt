@@ -1,16 +1,14 @@
 //! What one event costs the leader of three, with all its acts, at a short log and at a long one. After each the memory is set back, so that every event finds the same.
 use crate::clusters::Cluster;
 use crate::timing::Work;
-use messages::Message;
 use messages::encoder::encode;
+use messages::{MAX_LETTER_BYTES, Message};
 use raft::rows::{MATCHED, NEXT};
 use raft_log::layout::{APPLIED, COMMITTED, LAST_INDEX, MEMORY_WORDS};
 use raft_log::{Index, Term};
 use std::alloc::{AllocError, Global};
 use together::Told;
 use together_several::step;
-
-const LETTER_BYTES: usize = 4096;
 
 const VALUE: [u8; 16] = [7; 16];
 
@@ -41,7 +39,7 @@ pub struct Event {
 // The bytes of an acknowledgement in term 1.
 fn acknowledgement(heap: Global, index: u64) -> Result<Vec<u8>, AllocError> {
     let memory = vec![in heap; 0; MEMORY_WORDS]?;
-    let mut out = vec![in heap; 0; LETTER_BYTES]?;
+    let mut out = vec![in heap; 0; MAX_LETTER_BYTES]?;
     let message = Message::AppendResponse {
         term: Term(1),
         index: Index(index),
@@ -80,7 +78,7 @@ impl Event {
             kind,
             entries,
             memory: leader(heap, entries)?,
-            out: vec![in heap; 0; LETTER_BYTES]?,
+            out: vec![in heap; 0; MAX_LETTER_BYTES]?,
             letter: acknowledgement(heap, entries)?,
         })
     }

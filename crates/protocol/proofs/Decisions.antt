@@ -28,14 +28,14 @@ pub decisions_some : {A : Type 0} (e : Entry A) (es : Log A) (a : A) → e.conte
 unfolding decisions
 decisions_some {A} e es a z = ap (λ (o : Option A). with_content o (decisions es)) z
 
-with-content-++ : {A : Type 0} (o : Option A) (xs ys : List A) → with_content o (xs ++ ys) ≡ with_content o xs ++ ys
-with-content-++ none xs ys = refl
-with-content-++ (some a) xs ys = refl
+with_content-++ : {A : Type 0} (o : Option A) (xs ys : List A) → with_content o (xs ++ ys) ≡ with_content o xs ++ ys
+with_content-++ none xs ys = refl
+with_content-++ (some a) xs ys = refl
 
 pub decisions-++ : {A : Type 0} (a b : Log A) → decisions (a ++ b) ≡ decisions a ++ decisions b
 unfolding decisions
 decisions-++ [] b = refl
-decisions-++ (e ∷ es) b = ap (with_content e.content) (decisions-++ es b) ∙ with-content-++ e.content (decisions es) (decisions b)
+decisions-++ (e ∷ es) b = ap (with_content e.content) (decisions-++ es b) ∙ with_content-++ e.content (decisions es) (decisions b)
 
 pub decisions_take : {A : Type 0} (l : Log A) (j k : ℕ) → j ≤ k → Begins (decisions (take j l)) (decisions (take k l))
 unfolding Begins

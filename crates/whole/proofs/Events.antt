@@ -60,55 +60,55 @@ module _ (many h k : ℕ) (ps : List (List ℕ)) (o : List ℕ) (m : List ℕ) (
 
   -- A TICK: the order is as it was
   module _ (k₁ : ℕ) (later : k < k₁) where
-    abbrev Goes_on : List ℕ → Type 0
-    Goes_on m₁ = Going many h k₁ ps o m₁ f
+    abbrev GoesOn : List ℕ → Type 0
+    GoesOn m₁ = Going many h k₁ ps o m₁ f
 
-    in_role : (y : Machine) → Held y → y.size.0 ≡ x.size.0 → y.id.0 ≡ x.id.0 → (y.role ≡ Leader → many ≡ 1) → y.term.0 ≤ k₁ → y.since.0 ≡ x.since.0 → Goes_on (stored m y)
+    in_role : (y : Machine) → Held y → y.size.0 ≡ x.size.0 → y.id.0 ≡ x.id.0 → (y.role ≡ Leader → many ≡ 1) → y.term.0 ≤ k₁ → y.since.0 ≡ x.since.0 → GoesOn (stored m y)
     in_role y held size id leads term since =
         going_stored k₁ ps o m y r.going.holds refl (omega arith) held (size ∙ r.going.size) (id ∙ r.going.id) leads term since
 
     module _ (t : ℕ) (fits : t ≤ k₁) where
-      new_term : (role : Role) → elapsed_word role ≤ 10 → (role ≡ Leader → many ≡ 1) → Goes_on (stored m (in_term x t role))
+      new_term : (role : Role) → elapsed_word role ≤ 10 → (role ≡ Leader → many ≡ 1) → GoesOn (stored m (in_term x t role))
       new_term role waits leads = in_role (in_term x t role) (record { some = (loaded_held m).some; waits = waits }) refl refl leads fits refl
 
-      leads_now : many ≡ 1 → Goes_on (led m x t)
+      leads_now : many ≡ 1 → GoesOn (led m x t)
       unfolding led
       leads_now one =
-          cond_both (empty_fits m) (stored (commit_raised (empty_appended m t) (empty_place m)) (in_term x t Leader)) (stored m (in_term x t (Follower (ticks 0)))) (λ y. Goes_on y)
+          cond_both (empty_fits m) (stored (commit_raised (empty_appended m t) (empty_place m)) (in_term x t Leader)) (stored m (in_term x t (Follower (ticks 0)))) (λ y. GoesOn y)
           (λ e.
           going_stored k₁ ps o (commit_raised (empty_appended m t) (empty_place m)) (in_term x t Leader) (holds_led ps o m t e r.going.holds)
           (commit_raised_applied (empty_appended m t) (empty_place m) ∙ empty_applied m t r.going.holds.long e) (omega arith)
           (record { some = (loaded_held m).some; waits = omega arith }) r.going.size r.going.id (λ _. one) fits refl)
           (λ _. new_term (Follower (ticks 0)) (omega arith) (not_leader (ticks 0)))
 
-      stands : Goes_on (campaigned m x t)
+      stands : GoesOn (campaigned m x t)
       unfolding campaigned
       stands =
-          cond_both (most_of 1 x.size.0) (led m x t) (stored m (in_term x t (Candidate (ticks 0)))) (λ y. Goes_on y)
+          cond_both (most_of 1 x.size.0) (led m x t) (stored m (in_term x t (Candidate (ticks 0)))) (λ y. GoesOn y)
           (λ e. leads_now (omega (arith, ltb-true x.size.0 2 e, r.going.size, (loaded_held m).some)))
           (λ _. new_term (Candidate (ticks 0)) (omega arith) (candidate_no (ticks 0)))
 
-      enters : Goes_on (term_entered m x t)
+      enters : GoesOn (term_entered m x t)
       unfolding term_entered
       enters =
-          cond_both (eqb (owner x.size.0 t) x.id.0) (campaigned m x t) (stored m (in_term x t (Follower (ticks 0)))) (λ y. Goes_on y) (λ _. stands)
+          cond_both (eqb (owner x.size.0 t) x.id.0) (campaigned m x t) (stored m (in_term x t (Follower (ticks 0)))) (λ y. GoesOn y) (λ _. stands)
           (λ _. new_term (Follower (ticks 0)) (omega arith) (not_leader (ticks 0)))
 
-    stays : Goes_on m
+    stays : GoesOn m
     stays =
         let g = r.going in
         record { holds = g.holds; size = g.size; id = g.id; leads = g.leads; term = omega (arith, g.term); since = g.since; turn = g.turn; low = g.low; reach = g.reach; ever = g.ever; reached = g.reached; settles = g.settles }
 
-    waits : (e : Ticks) (role : Role) → elapsed_word role ≤ 10 → (role ≡ Leader → many ≡ 1) → Goes_on (waited m x e role)
+    waits : (e : Ticks) (role : Role) → elapsed_word role ≤ 10 → (role ≡ Leader → many ≡ 1) → GoesOn (waited m x e role)
     waits e role w leads =
-        cond_both (ltb e.0 10) (stored m (with_role x role)) (next_term_entered m x) (λ y. Goes_on y)
+        cond_both (ltb e.0 10) (stored m (with_role x role)) (next_term_entered m x) (λ y. GoesOn y)
         (λ _. in_role (with_role x role) (record { some = (loaded_held m).some; waits = w }) refl refl leads (omega (arith, r.going.term)) refl)
-        (λ _. cond_both (ltb x.term.0 18446744073709551615) (term_entered m x (x.term.0 + 1)) m (λ y. Goes_on y) (λ _. enters (x.term.0 + 1) (omega (arith, r.going.term))) (λ _. stays))
+        (λ _. cond_both (ltb x.term.0 18446744073709551615) (term_entered m x (x.term.0 + 1)) m (λ y. GoesOn y) (λ _. enters (x.term.0 + 1) (omega (arith, r.going.term))) (λ _. stays))
 
     older_most : (e : Ticks) → (older e).0 ≤ 10
     older_most e = cond_both (ltb e.0 10) (ticks (e.0 + 1)) (ticks 10) (λ y. y.0 ≤ 10) (λ l. omega (arith, ltb-true e.0 10 l)) (λ _. omega arith)
 
-    ticks_as : (role : Role) → Goes_on (tick_as m x role)
+    ticks_as : (role : Role) → GoesOn (tick_as m x role)
     ticks_as (Follower e) = waits (older e) (Follower (older e)) (older_most e) (not_leader (older e))
     ticks_as (Candidate e) = waits (older e) (Candidate (older e)) (older_most e) (candidate_no (older e))
     ticks_as Leader = stays
