@@ -42,7 +42,7 @@ fn time<W: Work>(rt: &HostRuntime, work: &mut W) -> anyhow::Result<Timing> {
     for _ in 0..ROUNDS {
         times.push(time_round(rt, work)?)?;
     }
-    times.sort()?;
+    times.sort_unstable();
     Ok(Timing {
         best: times.first().copied().unwrap_or(0),
         middle: times.get(ROUNDS / 2).copied().unwrap_or(0),
