@@ -5,8 +5,8 @@ use Rattle.std.proofs.lemmas.List.FromFn.{length-map-range_with_len, get_or-map-
 use Rattle.std.proofs.lemmas.Bool.{cond-true, cond-false, le-leb, lt-leb, leb-true, and_parts, cases_Bool}
 use Rattle.raft_log.specs.declared.Index.{Index}
 use Rattle.raft_log.specs.Entries.{last_index, term_at, index}
-use Rattle.raft_log.specs.Block.{Entry, block_entry, block_entries, row_term}
-use Rattle.raft_log.specs.View.{log_of, no_entry, term_before}
+use Rattle.raft_log.specs.Block.{Entry, block_entry, block_entries}
+use Rattle.raft_log.specs.View.{log_of, no_entry, entry_in, term_before}
 use Rattle.raft_log.specs.Conflict.{has_term, is_up_to_date, conflict, conflict_by_term}
 use Rattle.raft_log.proofs.ViewLaws.{length_log, log_term}
 
@@ -19,11 +19,6 @@ module _ (bs : List ℕ) (n : ℕ) where
   pub block_entries_at : (i : ℕ) (d : Entry) → i < n → get_or (block_entries bs n) i d ≡ block_entry bs n i
   unfolding block_entries
   block_entries_at i d l = get_or-map-range_with_len (λ i. block_entry bs n i) 0 n i i d l (omega arith)
-
-  pub block_entries_from : (i : ℕ) → i < n → drop i (block_entries bs n) ≡ block_entry bs n i ∷ drop (i + 1) (block_entries bs n)
-  block_entries_from i l =
-      drop_more (block_entries bs n) i no_entry (omega (arith, length_block_entries))
-      ∙ ap (λ e. e ∷ drop (i + 1) (block_entries bs n)) (block_entries_at i no_entry l)
 
 -- ENTRY BY ENTRY
 pub conflict_none : (l : List Entry) (p : ℕ) → conflict l p [] ≡ None
@@ -38,26 +33,24 @@ pub conflict_here : (l : List Entry) (p : ℕ) (e : Entry) (es : List Entry) →
 unfolding conflict
 conflict_here l p e es h = cond-false (has_term l (suc p) e.term) (conflict l (suc p) es) (Some (index (suc p))) h
 
--- a block that agrees up to entry i
-module _ (l : List Entry) (bs : List ℕ) (n p i q : ℕ) (less : i < n) (at : q ≡ p + i + 1) where
+-- entries that agree up to entry i
+module _ (l es : List Entry) (p i q : ℕ) (less : i < length es) (at : q ≡ p + i + 1) where
   abbrev rest : List Entry
-  rest = drop (i + 1) (block_entries bs n)
+  rest = drop (i + 1) es
 
-  pub block_conflict_on :
-      has_term l q (row_term bs i) ≡ true → conflict l (p + i) (drop i (block_entries bs n)) ≡ conflict l (p + (i + 1)) (drop (i + 1) (block_entries bs n))
-  block_conflict_on h =
+  pub next_conflict_on : has_term l q (entry_in es i).term ≡ true → conflict l (p + i) (drop i es) ≡ conflict l (p + (i + 1)) (drop (i + 1) es)
+  next_conflict_on h =
       let e : q ≡ suc (p + i) = omega arith in
       let f : suc (p + i) ≡ p + (i + 1) = omega arith in
-      ap (conflict l (p + i)) (block_entries_from bs n i less) ∙ (conflict_on l (p + i) (block_entry bs n i) rest (rw e at h) ∙ ap (λ k. conflict l k rest) f)
+      ap (conflict l (p + i)) (drop_more es i no_entry less) ∙ (conflict_on l (p + i) (entry_in es i) rest (rw e at h) ∙ ap (λ k. conflict l k rest) f)
 
-  pub block_conflict_here : has_term l q (row_term bs i) ≡ false → conflict l (p + i) (drop i (block_entries bs n)) ≡ Some (index q)
-  block_conflict_here h =
+  pub next_conflict_here : has_term l q (entry_in es i).term ≡ false → conflict l (p + i) (drop i es) ≡ Some (index q)
+  next_conflict_here h =
       let e : q ≡ suc (p + i) = omega arith in
-      ap (conflict l (p + i)) (block_entries_from bs n i less) ∙ (conflict_here l (p + i) (block_entry bs n i) rest (rw e at h) ∙ ap (λ k. Some (index k)) (sym e))
+      ap (conflict l (p + i)) (drop_more es i no_entry less) ∙ (conflict_here l (p + i) (entry_in es i) rest (rw e at h) ∙ ap (λ k. Some (index k)) (sym e))
 
-pub block_conflict_none : (l : List Entry) (bs : List ℕ) (n p i : ℕ) → n ≤ i → conflict l (p + i) (drop i (block_entries bs n)) ≡ None
-block_conflict_none l bs n p i b =
-    ap (conflict l (p + i)) (drop_all i (block_entries bs n) (omega (arith, length_block_entries bs n))) ∙ conflict_none l (p + i)
+pub conflict_past : (l es : List Entry) (p i : ℕ) → length es ≤ i → conflict l (p + i) (drop i es) ≡ None
+conflict_past l es p i b = ap (conflict l (p + i)) (drop_all i es b) ∙ conflict_none l (p + i)
 
 -- the index of the first difference: of an entry of es, and not far behind the log
 pub record Within (l : List Entry) (p : ℕ) (es : List Entry) (c : ℕ) : Type 0 where

@@ -1,40 +1,34 @@
 -- Entries of a block that are put behind the last.
-use Rattle.std.proofs.Common.{◌≡◌, ℕ, zero, suc, ◌+◌, ◌-◌, ◌*◌, ◌<◌, ◌≤◌, true, cond, ◌&&◌, eqb, ltb, leb, ◌≢◌, List, ◌∷◌, length, take, drop, sym, refl, ap, ◌∙◌, subst, arith}
+use Rattle.std.proofs.Common.{◌≡◌, ℕ, zero, suc, ◌+◌, ◌-◌, ◌*◌, ◌<◌, ◌≤◌, true, ◌&&◌, ltb, leb, ◌≢◌, List, ◌∷◌, length, take, drop, sym, refl, ap, ◌∙◌, subst, arith}
 use mathlib.Core.Option.{Option, none, some}
-use Rattle.std.proofs.lemmas.List.{drop_all, length-drop, length-take-le}
-use Rattle.std.proofs.lemmas.Bool.{leb-true, le-leb, lt-ltb, and_parts, and_from, cond-false, ne_eqb}
+use Rattle.std.proofs.lemmas.List.{drop_more, drop_all, length-drop, length-take-le}
+use Rattle.std.proofs.lemmas.Bool.{leb-true, le-leb, lt-ltb, and_parts, and_from}
 use Rattle.raft_log.specs.Layout.{memory_words}
-use Rattle.raft_log.specs.Values.{value_put}
 use Rattle.raft_log.specs.Entries.{last_index, number_at, values, entry_pushed, value_fits, value_appended}
-use Rattle.raft_log.specs.Block.{Entry, row_term, row_code, row_length, value_offset, content_of, block_entry, block_entries, block_fits}
-use Rattle.raft_log.specs.View.{with_content, decisions}
+use Rattle.raft_log.specs.Block.{Entry, row_length, value_offset, content_of, block_fits}
+use Rattle.raft_log.specs.View.{no_entry, entry_in, with_content, decisions}
 use Rattle.raft_log.specs.Accept.{truncated, content_taken, entry_taken, entries_taken, entries_fit}
 use Rattle.raft_log.proofs.LogLaws.{number_most}
 use Rattle.raft_log.proofs.AppendLaws.{length_pushed, pushed_last, pushed_values, length_appended, appended_last, appended_values}
 use Rattle.raft_log.proofs.BlockReads.{fits}
-use Rattle.raft_log.proofs.ConflictLaws.{length_block_entries, block_entries_from}
 use Rattle.raft_log.proofs.LogChanges.{truncated_last, truncated_values}
 
 -- what an entry of a block holds
-content_some : (n : ℕ) (v : List ℕ) → n ≢ 0 → content_of n v ≡ some v
+pub content_some : (n : ℕ) (v : List ℕ) → n ≢ 0 → content_of n v ≡ some v
 content_some zero v ne = absurd (ne refl)
 content_some (suc n) v ne = refl
 
-content_none : (n : ℕ) (v : List ℕ) → n ≡ 0 → content_of n v ≡ none
+pub content_none : (n : ℕ) (v : List ℕ) → n ≡ 0 → content_of n v ≡ none
 content_none n v e = ap (λ k. content_of k v) e
 
-module _ (m bs : List ℕ) (n i : ℕ) where
-  abbrev value : List ℕ
-  value = take (row_length bs i) (drop (value_offset bs n i) bs)
+-- what an entry without a value does, and one with a value
+pub taken_empty : (m : List ℕ) (e : Entry) → e.content ≡ none → entry_taken m e ≡ entry_pushed m (last_index m + 1) e.term (values m)
+unfolding entry_taken
+taken_empty m e h = ap (content_taken m e.term) h
 
-  pub taken_empty : row_code bs i ≡ 0 → entry_taken m (block_entry bs n i) ≡ entry_pushed m (last_index m + 1) (row_term bs i) (values m)
-  unfolding entry_taken
-  taken_empty e = ap (content_taken m (row_term bs i)) (content_none (row_code bs i) value e)
-
-  pub taken_value :
-      row_code bs i ≢ 0 → entry_taken m (block_entry bs n i) ≡ entry_pushed (value_put m (values m) value) (last_index m + 1) (row_term bs i) (values m + 1)
-  unfolding entry_taken value_appended
-  taken_value ne = ap (content_taken m (row_term bs i)) (content_some (row_code bs i) value ne)
+pub taken_value : (m : List ℕ) (e : Entry) (v : List ℕ) → e.content ≡ some v → entry_taken m e ≡ value_appended m e.term v
+unfolding entry_taken
+taken_value m e v h = ap (content_taken m e.term) h
 
 -- ROOM for the entries of a block from i on
 module _ (m : List ℕ) (e : Entry) (es : List Entry) where
@@ -110,71 +104,69 @@ module _ (bs : List ℕ) (n i : ℕ) (ok : block_fits bs n ≡ true) (less : i <
   pub value_cut_short : (a b : ℕ) → a ≡ value_offset bs n i → b ≡ row_length bs i → length (take (a + b - a) (drop a bs)) ≤ 256
   value_cut_short a b p q = omega (arith, ap length (value_cut a b p q), value_short)
 
-  pub content_short : Short (block_entry bs n i).content
-  content_short = go (row_code bs i) value_short
-    where
-      go : (k : ℕ) → length (take (row_length bs i) (drop (value_offset bs n i) bs)) ≤ 256 → Short (content_of k (take (row_length bs i) (drop (value_offset bs n i) bs)))
-      go zero h = tt
-      go (suc k) h = h
+-- ENTRY i of those that there is room for
+module _ (m : List ℕ) (es : List Entry) (i : ℕ) (less : i < length es) (room : entries_fit m (drop i es) ≡ true) where
+  room_here : entries_fit m (entry_in es i ∷ drop (i + 1) es) ≡ true
+  room_here = ap (entries_fit m) (sym (drop_more es i no_entry less)) ∙ room
 
-module _ (m bs : List ℕ) (n i : ℕ) (less : i < n) (room : entries_fit m (drop i (block_entries bs n)) ≡ true) where
-  room_here : entries_fit m (block_entry bs n i ∷ drop (i + 1) (block_entries bs n)) ≡ true
-  room_here = ap (entries_fit m) (sym (block_entries_from bs n i less)) ∙ room
+  pub entry_room : last_index m < 8193
+  entry_room = omega (arith, fit_entry m (entry_in es i) (drop (i + 1) es) room_here)
 
-  pub block_room : last_index m < 8193
-  block_room = omega (arith, fit_entry m (block_entry bs n i) (drop (i + 1) (block_entries bs n)) room_here)
+  values_room : values m + length (with_content (entry_in es i).content (decisions (drop (i + 1) es))) ≤ 4096
+  values_room = fit_values m (entry_in es i) (drop (i + 1) es) room_here
 
-  pub block_values : values m + length (with_content (block_entry bs n i).content (decisions (drop (i + 1) (block_entries bs n)))) ≤ 4096
-  block_values = fit_values m (block_entry bs n i) (drop (i + 1) (block_entries bs n)) room_here
-
-  pub block_slot : row_code bs i ≢ 0 → values m < 4096
-  block_slot ne =
-      let e = content_some (row_code bs i) (take (row_length bs i) (drop (value_offset bs n i) bs)) ne in
-      let h : values m + suc (length (decisions (drop (i + 1) (block_entries bs n)))) ≤ 4096 =
-      subst (λ (o : Option (List ℕ)). values m + length (with_content o (decisions (drop (i + 1) (block_entries bs n)))) ≤ 4096) e block_values in
+  pub value_slot : (v : List ℕ) → (entry_in es i).content ≡ some v → values m < 4096
+  value_slot v e =
+      let h : values m + suc (length (decisions (drop (i + 1) es))) ≤ 4096 =
+      subst (λ (o : Option (List ℕ)). values m + length (with_content o (decisions (drop (i + 1) es))) ≤ 4096) e values_room in
       omega arith
 
-  pub block_took : block_fits bs n ≡ true → length m ≡ memory_words → Took m (entry_taken m (block_entry bs n i)) (block_entry bs n i).content
+  entry_took : Short (entry_in es i).content → length m ≡ memory_words → Took m (entry_taken m (entry_in es i)) (entry_in es i).content
   unfolding entry_taken
-  block_took ok long = took m (row_term bs i) (block_entry bs n i).content (decisions (drop (i + 1) (block_entries bs n))) long (content_short bs n i ok less) block_room block_values
+  entry_took short long = took m (entry_in es i).term (entry_in es i).content (decisions (drop (i + 1) es)) long short entry_room values_room
 
   -- there is room for the rest
-  pub block_rest :
-      block_fits bs n ≡ true → length m ≡ memory_words → entries_fit (entry_taken m (block_entry bs n i)) (drop (i + 1) (block_entries bs n)) ≡ true
-  block_rest ok long =
-      let k = block_took ok long in
-      entries_fit_from (entry_taken m (block_entry bs n i)) (drop (i + 1) (block_entries bs n))
-      (omega (arith, k.last, fit_entry m (block_entry bs n i) (drop (i + 1) (block_entries bs n)) room_here))
-      (omega (arith, k.held (decisions (drop (i + 1) (block_entries bs n))), block_values))
+  pub rest_room : Short (entry_in es i).content → length m ≡ memory_words → entries_fit (entry_taken m (entry_in es i)) (drop (i + 1) es) ≡ true
+  rest_room short long =
+      let k = entry_took short long in
+      entries_fit_from (entry_taken m (entry_in es i)) (drop (i + 1) es)
+      (omega (arith, k.last, fit_entry m (entry_in es i) (drop (i + 1) es) room_here))
+      (omega (arith, k.held (decisions (drop (i + 1) es)), values_room))
 
-pub taken_more : (m bs : List ℕ) (n i : ℕ) → i < n → entries_taken m (drop i (block_entries bs n)) ≡ entries_taken (entry_taken m (block_entry bs n i)) (drop (i + 1) (block_entries bs n))
-unfolding entries_taken
-taken_more m bs n i l = ap (entries_taken m) (block_entries_from bs n i l)
+pub short_none : (o : Option (List ℕ)) → o ≡ none → Short o
+short_none o e = subst Short (sym e) tt
 
-pub taken_all : (m bs : List ℕ) (n i : ℕ) → n ≤ i → entries_taken m (drop i (block_entries bs n)) ≡ m
+pub short_some : (o : Option (List ℕ)) (v : List ℕ) → o ≡ some v → length v ≤ 256 → Short o
+short_some o v e s = subst Short (sym e) s
+
+pub taken_more : (m : List ℕ) (es : List Entry) (i : ℕ) → i < length es → entries_taken m (drop i es) ≡ entries_taken (entry_taken m (entry_in es i)) (drop (i + 1) es)
 unfolding entries_taken
-taken_all m bs n i l = ap (entries_taken m) (drop_all i (block_entries bs n) (omega (arith, length_block_entries bs n)))
+taken_more m es i l = ap (entries_taken m) (drop_more es i no_entry l)
+
+pub taken_all : (m : List ℕ) (es : List Entry) (i : ℕ) → length es ≤ i → entries_taken m (drop i es) ≡ m
+unfolding entries_taken
+taken_all m es i l = ap (entries_taken m) (drop_all i es l)
 
 -- HOW MANY VALUES the entries from i on have
-pub counted_more : (bs : List ℕ) (n i : ℕ) → i < n → length (decisions (drop i (block_entries bs n))) ≡ cond (eqb (row_code bs i) 0) 0 1 + length (decisions (drop (i + 1) (block_entries bs n)))
-unfolding decisions
-counted_more bs n i l =
-    ap (λ es. length (decisions es)) (block_entries_from bs n i l)
-    ∙ go (row_code bs i) (take (row_length bs i) (drop (value_offset bs n i) bs)) (decisions (drop (i + 1) (block_entries bs n)))
-  where
-    go : (k : ℕ) (v : List ℕ) (vs : List (List ℕ)) → length (with_content (content_of k v) vs) ≡ cond (eqb k 0) 0 1 + length vs
-    go zero v vs = omega arith
-    go (suc k) v vs = omega (arith, cond-false {A = ℕ} (eqb (suc k) 0) 0 1 (ne_eqb (suc k) 0 (λ e. omega arith)))
+module _ (es : List Entry) (i : ℕ) (less : i < length es) where
+  counted : length (decisions (drop i es)) ≡ length (with_content (entry_in es i).content (decisions (drop (i + 1) es)))
+  unfolding decisions
+  counted = ap (λ xs. length (decisions xs)) (drop_more es i no_entry less)
 
-pub counted_all : (bs : List ℕ) (n i : ℕ) → n ≤ i → length (decisions (drop i (block_entries bs n))) ≡ 0
+  pub counted_none : (entry_in es i).content ≡ none → length (decisions (drop i es)) ≡ length (decisions (drop (i + 1) es))
+  counted_none e = counted ∙ ap (λ o. length (with_content o (decisions (drop (i + 1) es)))) e
+
+  pub counted_some : (v : List ℕ) → (entry_in es i).content ≡ some v → length (decisions (drop i es)) ≡ suc (length (decisions (drop (i + 1) es)))
+  counted_some v e = counted ∙ ap (λ o. length (with_content o (decisions (drop (i + 1) es)))) e
+
+pub counted_all : (es : List Entry) (i : ℕ) → length es ≤ i → length (decisions (drop i es)) ≡ 0
 unfolding decisions
-counted_all bs n i l = ap (λ es. length (decisions es)) (drop_all i (block_entries bs n) (omega (arith, length_block_entries bs n)))
+counted_all es i l = ap (λ xs. length (decisions xs)) (drop_all i es l)
 
 -- BEFORE THE CUT the room behind it is known
 pub room_read :
-    (m : List ℕ) (k : ℕ) (bs : List ℕ) (n s : ℕ) → length m ≡ memory_words → k ≤ last_index m →
-    entries_fit (truncated m k) (drop s (block_entries bs n)) ≡ (leb (k + (n - s)) 8193 && leb (number_at m k + length (decisions (drop s (block_entries bs n)))) 4096)
+    (m : List ℕ) (k : ℕ) (es : List Entry) (s : ℕ) → length m ≡ memory_words → k ≤ last_index m →
+    entries_fit (truncated m k) (drop s es) ≡ (leb (k + (length es - s)) 8193 && leb (number_at m k + length (decisions (drop s es))) 4096)
 unfolding entries_fit
-room_read m k bs n s long within =
-    let e : length (drop s (block_entries bs n)) ≡ n - s = length-drop s (block_entries bs n) ∙ ap (λ x. x - s) (length_block_entries bs n) in
-    cc (e, truncated_last m k long within, truncated_values m k long within)
+room_read m k es s long within =
+    cc (length-drop s es, truncated_last m k long within, truncated_values m k long within)

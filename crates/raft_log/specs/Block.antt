@@ -89,6 +89,16 @@ ValuesEnd bs n None = codes_fit bs n ≡ false
 unfoldable pub block_fits : List ℕ → ℕ → Bool
 block_fits bs n = nat_le n 15 && (nat_le (10 * n) (length bs) && (codes_fit bs n && value_offset bs n n == length bs))
 
+-- the entries that the bytes are, if they are a block of n
+abbrev pub BlockRead : List ℕ → ℕ → Maybe (List Entry) → Type 0
+BlockRead bs n (Some es) = (block_fits bs n ≡ true) × (es ≡ block_entries bs n)
+BlockRead bs n None = block_fits bs n ≡ false
+
+-- what an entry holds, as a value that may be there
+abbrev pub Holds : Entry → Maybe (List ℕ) → Type 0
+Holds e (Some v) = (e.content ≡ some v) × (length v ≤ 256)
+Holds e None = e.content ≡ none
+
 -- THE LOG IN MEMORY as entries: one is empty if no value more stands up to it than up to the one before
 abbrev pub log_content : List ℕ → ℕ → Option (List ℕ)
 log_content m i = cond (number_at m i == number_at m (i - 1)) none (some (value_at m (number_at m i - 1)))

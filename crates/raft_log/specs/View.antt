@@ -48,6 +48,10 @@ pub record Tidy (m : List ℕ) : Type 0 where
 abbrev pub no_entry : Entry
 no_entry = entry 0 none
 
+-- the entry at place i, from 0
+abbrev pub entry_in : List Entry → ℕ → Entry
+entry_in es i = slice_index_or es i no_entry
+
 -- the term of the entry with index i, 0 of none
 abbrev pub term_before : List Entry → ℕ → ℕ
 term_before l zero = 0

@@ -1,9 +1,11 @@
 //! Blocks of entries as bytes: a table with a row for each entry, its term and the code of its content, and behind it the values. A block is read in place.
-ghost use Rattle.std.specs.Prelude.{◌≡◌, ◌+◌, ◌*◌, ◌<◌, ◌≤◌, true, length};
-ghost use Rattle.raft_log.specs.Block.{row_term, row_code, row_length, value_offset, ValuesEnd, block_fits};
+ghost use Rattle.std.specs.Prelude.{◌≡◌, ◌+◌, ◌*◌, ◌<◌, ◌≤◌, true, false, length, Some, None};
+ghost use Rattle.raft_log.specs.Block.{row_term, row_code, row_length, value_offset, ValuesEnd, block_fits, BlockRead, Holds};
+ghost use Rattle.raft_log.specs.View.{entry_in};
 
 use super::Term;
-use super::bytes::{get_u16, get_u64};
+use super::bytes::{get, get_u64};
+use std::marker::Model;
 
 /// The length of a row of the table.
 pub const ROW_BYTES: usize = 10;
@@ -14,24 +16,83 @@ pub const MAX_BLOCK_ENTRIES: usize = 15;
 /// The code of a value of 256 bytes.
 const MAX_CODE: u16 = 257;
 
-/// The term of entry `i`, from 0.
-pub fn entry_term(block: &[u8], i: usize) -> Term
+/// Entries as bytes, from the first byte to the last; clauses see the entries.
+#[derive(Drop)]
+pub struct Block<'a> {
+    bytes: &'a [u8],
+    count: usize,
+}
+
+impl<'a> Model for Block<'a> {
+    ghost use Rattle.std.specs.Prelude.{◌≡◌, true, List};
+    ghost use Rattle.raft_log.specs.Block.{Entry, block_entries, block_fits};
+
+    ghost Value = { List Entry };
+
+    ghost view = { λ b. block_entries b.bytes.now b.count };
+
+    ghost invariant = { λ b. block_fits b.bytes.now b.count ≡ true };
+}
+
+impl<'a> Block<'a> {
+    /// `None` where these bytes are no block of `count` entries.
+    pub fn new(bytes: &'a [u8], count: usize) -> Option<Block<'a>>
+        ensures { BlockRead bytes.now count result }
+    {
+        if is_valid_block(bytes, count) {
+            Some(Block { bytes, count })
+        } else {
+            None
+        }
+    }
+
+    /// How many entries.
+    pub fn len(&self) -> usize
+        ensures is { result ≡ length self.now }
+        ensures few { result ≤ 15 }
+    {
+        self.count
+    }
+
+    /// The term of entry `i`, from 0.
+    pub fn term(&self, i: usize) -> Term
+        requires { i < length self.now }
+        ensures { result.0 ≡ (entry_in self.now i).term }
+    {
+        entry_term(self.bytes, i)
+    }
+
+    /// The value of entry `i`; an empty one has none.
+    pub fn value(&self, i: usize) -> Option<&[u8]>
+        requires { i < length self.now }
+        ensures { elim result [ Some value ↦ Holds (entry_in self.now i) (Some value.now) | None ↦ Holds (entry_in self.now i) None ] }
+    {
+        if entry_code(self.bytes, i) == 0 {
+            return None;
+        }
+        let start = value_offset(self.bytes, self.count, i);
+        Some(&self.bytes[start..start + entry_length(self.bytes, i)])
+    }
+}
+
+// The term of entry `i`.
+fn entry_term(block: &[u8], i: usize) -> Term
     requires { 10 * i + 10 ≤ length block.now }
     ensures { result.0 ≡ row_term block.now i }
 {
     Term(get_u64(block, ROW_BYTES * i))
 }
 
-/// 0 for an empty entry, or else one more than its value's length.
-pub fn entry_code(block: &[u8], i: usize) -> u16
+// 0 for an empty entry, or else one more than its value's length.
+fn entry_code(block: &[u8], i: usize) -> u16
     requires { 10 * i + 10 ≤ length block.now }
     ensures { result ≡ row_code block.now i }
 {
-    get_u16(block, ROW_BYTES * i + CODE)
+    u16::from_le_bytes(get(block, ROW_BYTES * i + CODE))
 }
 
-/// How many bytes the value of entry `i` has.
-pub fn entry_length(block: &[u8], i: usize) -> usize
+// How many bytes the value of entry `i` has.
+fn entry_length(block: &[u8], i: usize) -> usize
     requires { 10 * i + 10 ≤ length block.now }
     ensures is { result ≡ row_length block.now i }
     ensures short { result < 65536 }
@@ -39,8 +100,8 @@ pub fn entry_length(block: &[u8], i: usize) -> usize
     usize::from(entry_code(block, i).saturating_sub(1))
 }
 
-/// Where the value of entry `i` begins, in a block of `count` entries.
-pub fn value_offset(block: &[u8], count: usize, i: usize) -> usize
+// Where the value of entry `i` begins, in a block of `count` entries.
+fn value_offset(block: &[u8], count: usize, i: usize) -> usize
     requires { (count ≤ 15) × ((10 * count ≤ length block.now) × (i ≤ count)) }
     ensures is { result ≡ value_offset block.now count i }
     ensures within { block_fits block.now count ≡ true → i < count → result + row_length block.now i ≤ length block.now }
@@ -71,11 +132,7 @@ fn values_end(block: &[u8], count: usize) -> Option<usize>
 pub fn is_valid_block(block: &[u8], count: usize) -> bool
     ensures { result ≡ block_fits block.now count }
 {
-    if count > MAX_BLOCK_ENTRIES || block.len() < ROW_BYTES * count {
-        return false;
-    }
-    let Some(end) = values_end(block, count) else {
-        return false;
-    };
-    end == block.len()
+    count <= MAX_BLOCK_ENTRIES
+        && block.len() >= ROW_BYTES * count
+        && values_end(block, count) == Some(block.len())
 }

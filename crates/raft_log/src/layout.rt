@@ -1,6 +1,4 @@
 //! Where things stand in a machine's memory. The machine's own words come first, then those of the log, then a row for each entry and a row for each value.
-ghost use Rattle.std.specs.Prelude.{◌≡◌, ◌≤◌};
-ghost use Rattle.raft_log.specs.Layout.{at_most};
 
 /// The machine's own words.
 pub const HEADER_WORDS: usize = 64;
@@ -31,10 +29,5 @@ pub const MAX_VALUE_BYTES: u64 = 256;
 /// The length of the whole memory.
 pub const MEMORY_WORDS: usize = 151_626;
 
-/// What is read from memory is bounded, whatever stands there.
-pub fn at_most(n: u64, limit: u64) -> u64
-    ensures is { result ≡ at_most n limit }
-    ensures below { result ≤ limit }
-{
-    if n < limit { n } else { limit }
-}
+/// A machine's memory; who calls lends it.
+pub type Memory = [u64; MEMORY_WORDS];

@@ -5,6 +5,3 @@ use Rattle.raft_log.proofs.conflict.find_conflict_by_term.Given as goal
 
 abbrev pub invariant-loop-i : goal.invariant-loop-i
 invariant-loop-i l = conflict_by_term (log_of l.memory) l.term.0 l.i ≡ conflict_by_term (log_of l.memory) l.term.0 l.initial.i
-
-abbrev pub decreases-loop-i : goal.decreases-loop-i
-decreases-loop-i l = l.i

@@ -2,10 +2,10 @@ use Rattle.std.proofs.Common.{rules}
 use Rattle.raft_log.specs.Entries.{term_at}
 use Rattle.raft_log.proofs.entries.term.Goals as goal
 
-pub returns-in_default : goal.returns-in_default
+pub returns-in-None : goal.returns-in-None
 unfolding term_at
-returns-in_default c = search rules
+returns-in-None c = search rules
 
-pub returns : goal.returns
+pub returns-in-Some : goal.returns-in-Some
 unfolding term_at
-returns c = search rules
+returns-in-Some c = search rules

@@ -2,7 +2,7 @@ use Rattle.std.proofs.Common.{◌≡◌, ◌+◌, ◌-◌, take, arith, rules}
 use Rattle.std.proofs.lemmas.List.{length-take-le}
 use Rattle.raft_log.specs.Bytes.{eight}
 use Rattle.raft_log.proofs.ByteLaws.{part_laid}
-use Rattle.raft_log.proofs.block_writer.write_part.Goals as goal
+use Rattle.raft_log.proofs.values.put_part.Goals as goal
 
 pub returns : goal.returns
 returns c =

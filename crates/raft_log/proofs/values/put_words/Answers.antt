@@ -2,7 +2,7 @@ use Rattle.std.proofs.Common.{◌≡◌, ◌+◌, ◌*◌, ap, ◌∙◌, arith}
 use Rattle.raft_log.specs.Bytes.{laid}
 use Rattle.raft_log.specs.Values.{bytes_at}
 use Rattle.raft_log.proofs.BlockWrites.{words_none, words_more}
-use Rattle.raft_log.proofs.block_writer.write_words.Goals as goal
+use Rattle.raft_log.proofs.values.put_words.Goals as goal
 
 pub loop-j-init : goal.loop-j-init
 loop-j-init c = words_none c.args.memory.now c.args.out.now c.args.base c.args.at
