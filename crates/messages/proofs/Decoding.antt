@@ -1,12 +1,15 @@
 -- What the bytes of each kind are read as.
-use Rattle.std.proofs.Common.{◌≡◌, ℕ, ◌≤◌, Bool, true, false, ◌&&◌, leb, List, length, get_or, drop, Option as Maybe, sym, ap, ◌∙◌, subst, arith}
+use Rattle.std.proofs.Common.{◌≡◌, ℕ, ◌≤◌, Bool, true, false, ◌&&◌, leb, List, length, get_or, drop, Option as Maybe, Result, Ok, Err, is_ok, inl, inr, sym, ap, ◌∙◌, subst, arith}
 use mathlib.Core.Option.{Option, none, some}
 use Rattle.std.proofs.lemmas.List.{get_or_past}
 use Rattle.std.proofs.lemmas.Bool.{le-leb, ne_eqb, and_from, and_right, cond-true, cond-false}
 use Rattle.raft_log.specs.Bytes.{word_at}
-use Rattle.raft_log.specs.Block.{block_entries, block_fits}
+use Rattle.raft_log.specs.Block.{Entry, block_entries, block_fits}
 use Rattle.messages.specs.declared.Message.{Message}
 use Rattle.messages.specs.Letter.{Letter, append, append_of, append_response_of, append_reject_of, request_vote_of, request_vote_response_of, term_notice_of, kind, letter_of}
+use Rattle.messages.specs.declared.kind.Kind.{Kind}
+use Rattle.messages.specs.declared.kind.UnknownKind.{UnknownKind}
+use Rattle.messages.specs.Kind.{Decodes}
 use Rattle.messages.specs.Message.{Gives}
 
 abbrev append_test : List ℕ → Bool
@@ -30,11 +33,8 @@ module _ (bs v : List ℕ) (n : ℕ) (b : Bool) (part : v ≡ drop 34 bs) (count
       (and_from (leb 34 (length bs)) (block_fits (drop 34 bs) (get_or bs 33 0)) (le-leb 34 (length bs) l) (block_test ∙ h))
       ∙ sym (rw (et, ep, eq, ek, count))
 
-  pub append_block : b ≡ true → block_fits (drop 34 bs) n ≡ true
-  append_block h = ap (block_fits (drop 34 bs)) count ∙ (block_test ∙ h)
-
-pub gives : (l l₁ : Option Letter) (bs : List ℕ) (r : Maybe Message) → l₁ ≡ l → Gives l bs r → Gives l₁ bs r
-gives l l₁ bs r e h = subst (λ (x : Option Letter). Gives x bs r) (sym e) h
+pub gives : (l l₁ : Option Letter) (r : Maybe (Message (List Entry))) → l₁ ≡ l → Gives l r → Gives l₁ r
+gives l l₁ r e h = subst (λ (x : Option Letter). Gives x r) (sym e) h
 
 module _ (bs : List ℕ) where
   pub kind_1 : kind bs ≡ 1 → letter_of bs ≡ append_of bs
@@ -70,3 +70,12 @@ module _ (bs : List ℕ) where
   empty_none l =
       let k : kind bs ≡ 0 = get_or_past bs 0 0 (omega arith) in
       kind_none (λ e. omega arith) (λ e. omega arith) (λ e. omega arith) (λ e. omega arith) (λ e. omega arith) (λ e. omega arith)
+
+-- a byte that is no kind begins no letter
+pub no_kind : (bs : List ℕ) (r : Result Kind UnknownKind) → Decodes (kind bs) r → false ≡ is_ok r → letter_of bs ≡ none
+no_kind bs (Ok k) d e = cc
+no_kind bs (Err x) d e =
+    elim d [
+      | inl z ↦ kind_none bs (λ e. omega arith) (λ e. omega arith) (λ e. omega arith) (λ e. omega arith) (λ e. omega arith) (λ e. omega arith)
+      | inr l ↦ kind_none bs (λ e. omega arith) (λ e. omega arith) (λ e. omega arith) (λ e. omega arith) (λ e. omega arith) (λ e. omega arith)
+    ]

@@ -1,5 +1,8 @@
 -- A letter that is written one part at a time.
-use Rattle.std.proofs.Common.{◌≡◌, ℕ, ◌+◌, ◌<◌, ◌≤◌, List, [], ◌∷◌, ◌++◌, length, drop, set, sym, refl, ap, ◌∙◌, zero-add, arith}
+use Rattle.std.proofs.Common.{◌≡◌, ℕ, zero, suc, ◌+◌, ◌*◌, ◌<◌, ◌≤◌, List, [], ◌∷◌, ◌++◌, length, get_or, take, drop, set, sym, refl, ap, ◌∙◌, zero-add, arith}
+use Rattle.std.specs.List.{flat_map}
+use Rattle.std.proofs.lemmas.List.{length-append, take_more}
+use Rattle.std.proofs.lemmas.Grind.{flat_map-append}
 use Rattle.raft_log.specs.Bytes.{laid, eight}
 use Rattle.raft_log.specs.Block.{Entry, block_bytes}
 use Rattle.raft_log.proofs.ByteLaws.{laid_more, set_laid, length_laid}
@@ -27,14 +30,25 @@ pub length_append : (t p q k : ℕ) (es : List Entry) → length (letter_bytes (
 unfolding letter_bytes
 length_append t p q k es = omega arith
 
-pub append_put : (out o o₁ o₂ : List ℕ) (t p q k n : ℕ) (es : List Entry) → length es ≡ n → 4096 ≤ length out →
-    o ≡ laid out 0 (1 ∷ (eight t ++ (eight p ++ eight q))) → o₁ ≡ laid o 25 (eight k ++ (n ∷ [])) → o₂ ≡ laid o₁ 34 (block_bytes es) →
+pub append_put : (out o o₂ : List ℕ) (t p q k n : ℕ) (es : List Entry) → length es ≡ n → 4096 ≤ length out →
+    o ≡ laid out 0 (1 ∷ (eight t ++ (eight p ++ (eight q ++ eight k)))) → o₂ ≡ laid (set o 33 n) 34 (block_bytes es) →
     o₂ ≡ laid out 0 (letter_bytes (append t p q k es))
 unfolding letter_bytes
-append_put out o o₁ o₂ t p q k n es c l h h₁ h₂ =
-    put_more out o₁ o₂ 0 34 (1 ∷ (eight t ++ (eight p ++ (eight q ++ (eight k ++ (n ∷ [])))))) (block_bytes es) refl (omega arith)
-    (put_more out o o₁ 0 25 (1 ∷ (eight t ++ (eight p ++ eight q))) (eight k ++ (n ∷ [])) refl (omega arith) h h₁) h₂
+append_put out o o₂ t p q k n es c l h h₂ =
+    put_more out (set o 33 n) o₂ 0 34 (1 ∷ (eight t ++ (eight p ++ (eight q ++ (eight k ++ (n ∷ [])))))) (block_bytes es) refl (omega arith)
+    (put_byte out o 0 33 (1 ∷ (eight t ++ (eight p ++ (eight q ++ eight k)))) n refl (omega arith) h) h₂
     ∙ ap (λ x. laid out 0 (1 ∷ (eight t ++ (eight p ++ (eight q ++ (eight k ++ (x ∷ block_bytes es))))))) (sym c)
+
+-- one number more
+pub length_numbers : (ns : List ℕ) (i : ℕ) → i ≤ length ns → length (flat_map eight (take i ns)) ≡ 8 * i
+length_numbers [] zero l = refl
+length_numbers [] (suc i) l = absurd (omega arith)
+length_numbers (n ∷ ns) zero l = refl
+length_numbers (n ∷ ns) (suc i) l = omega (arith, length-append (eight n) (flat_map eight (take i ns)), length_numbers ns i (omega arith))
+
+pub numbers_more : (ns : List ℕ) (i : ℕ) → i < length ns → flat_map eight (take i ns) ++ eight (get_or ns i 0) ≡ flat_map eight (take (i + 1) ns)
+numbers_more ns i l =
+    sym (ap (flat_map eight) (take_more ns i 0 l) ∙ flat_map-append eight (take i ns) (get_or ns i 0 ∷ []))
 
 -- a byte at a place, given as what it stands for
 pub byte_put : (out : List ℕ) (i x y : ℕ) → i < length out → x ≡ y → set out i x ≡ laid out i (y ∷ [])

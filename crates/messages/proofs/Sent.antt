@@ -9,7 +9,7 @@ use Rattle.messages.specs.Letter.{LetterFits}
 use Rattle.messages.specs.Message.{letter_from, Numbers, Sendable, SentComesBack}
 use Rattle.messages.proofs.RoundTrip.{round_trip}
 
-sent_fits : (m : List ℕ) (s : Message) → Words m → Numbers s → Sendable s → LetterFits (letter_from m s)
+sent_fits : (m : List ℕ) (s : Message ℕ) → Words m → Numbers s → Sendable s → LetterFits (letter_from m s)
 sent_fits m (Append t p q k n) w f g =
     (f.0, f.1, f.2, f.3, omega (arith, length_log_entries m (p.0 + 1) n, g.1), log_entries_fit m (p.0 + 1) n w)
 sent_fits m (AppendResponse t i) w f g = f

@@ -1,38 +1,31 @@
 //! Letters from bytes. What is no letter is refused.
 ghost use Rattle.messages.specs.Letter.{append_of, append_response_of, append_reject_of, request_vote_of, request_vote_response_of, term_notice_of, letter_of};
-ghost use Rattle.messages.specs.Message.{Gives, Readable};
+ghost use Rattle.messages.specs.Message.{Gives};
 
-use super::{
-    APPEND, APPEND_REJECT, APPEND_RESPONSE, BLOCK_AT, COUNT_AT, FIRST, FOURTH, Message,
-    REQUEST_VOTE, REQUEST_VOTE_RESPONSE, SECOND, TERM_NOTICE, THIRD,
-};
-use raft_log::block::is_valid_block;
+use super::kind::Kind;
+use super::{BLOCK_AT, COUNT_AT, FIRST, FOURTH, Message, SECOND, THIRD};
+use raft_log::block::Block;
 use raft_log::bytes::get_u64;
 use raft_log::{Index, Term};
 
-fn append(bytes: &[u8]) -> Option<Message>
-    ensures is { Gives (append_of bytes.now) bytes.now result }
-    ensures block { Readable bytes.now result }
+fn append(bytes: &[u8]) -> Option<Message<Block<'_>>>
+    ensures { Gives (append_of bytes.now) result }
 {
     if bytes.len() < BLOCK_AT {
         return None;
     }
-    let count = usize::from(bytes[COUNT_AT]);
-    if !is_valid_block(&bytes[BLOCK_AT..], count) {
-        return None;
-    }
+    let entries = Block::new(&bytes[BLOCK_AT..], usize::from(bytes[COUNT_AT]))?;
     Some(Message::Append {
         term: Term(get_u64(bytes, FIRST)),
         prev_index: Index(get_u64(bytes, SECOND)),
         prev_term: Term(get_u64(bytes, THIRD)),
         commit: Index(get_u64(bytes, FOURTH)),
-        count,
+        entries,
     })
 }
 
-fn append_response(bytes: &[u8]) -> Option<Message>
-    ensures is { Gives (append_response_of bytes.now) bytes.now result }
-    ensures block { Readable bytes.now result }
+fn append_response(bytes: &[u8]) -> Option<Message<Block<'_>>>
+    ensures { Gives (append_response_of bytes.now) result }
 {
     if bytes.len() != THIRD {
         return None;
@@ -43,9 +36,8 @@ fn append_response(bytes: &[u8]) -> Option<Message>
     })
 }
 
-fn append_reject(bytes: &[u8]) -> Option<Message>
-    ensures is { Gives (append_reject_of bytes.now) bytes.now result }
-    ensures block { Readable bytes.now result }
+fn append_reject(bytes: &[u8]) -> Option<Message<Block<'_>>>
+    ensures { Gives (append_reject_of bytes.now) result }
 {
     if bytes.len() != FOURTH {
         return None;
@@ -57,9 +49,8 @@ fn append_reject(bytes: &[u8]) -> Option<Message>
     })
 }
 
-fn request_vote(bytes: &[u8]) -> Option<Message>
-    ensures is { Gives (request_vote_of bytes.now) bytes.now result }
-    ensures block { Readable bytes.now result }
+fn request_vote(bytes: &[u8]) -> Option<Message<Block<'_>>>
+    ensures { Gives (request_vote_of bytes.now) result }
 {
     if bytes.len() != FOURTH {
         return None;
@@ -71,26 +62,20 @@ fn request_vote(bytes: &[u8]) -> Option<Message>
     })
 }
 
-fn request_vote_response(bytes: &[u8]) -> Option<Message>
-    ensures is { Gives (request_vote_response_of bytes.now) bytes.now result }
-    ensures block { Readable bytes.now result }
+fn request_vote_response(bytes: &[u8]) -> Option<Message<Block<'_>>>
+    ensures { Gives (request_vote_response_of bytes.now) result }
 {
-    if bytes.len() != SECOND + 1 {
-        return None;
-    }
-    let granted = bytes[SECOND];
-    if granted > 1 {
+    if bytes.len() != SECOND + 1 || bytes[SECOND] > 1 {
         return None;
     }
     Some(Message::RequestVoteResponse {
         term: Term(get_u64(bytes, FIRST)),
-        granted: granted == 1,
+        granted: bytes[SECOND] == 1,
     })
 }
 
-fn term_notice(bytes: &[u8]) -> Option<Message>
-    ensures is { Gives (term_notice_of bytes.now) bytes.now result }
-    ensures block { Readable bytes.now result }
+fn term_notice(bytes: &[u8]) -> Option<Message<Block<'_>>>
+    ensures { Gives (term_notice_of bytes.now) result }
 {
     if bytes.len() != SECOND {
         return None;
@@ -101,20 +86,15 @@ fn term_notice(bytes: &[u8]) -> Option<Message>
 }
 
 /// The letter that these bytes are; `None` where they are none.
-pub fn decode(bytes: &[u8]) -> Option<Message>
-    ensures is { Gives (letter_of bytes.now) bytes.now result }
-    ensures block { Readable bytes.now result }
+pub fn decode(bytes: &[u8]) -> Option<Message<Block<'_>>>
+    ensures { Gives (letter_of bytes.now) result }
 {
-    if bytes.len() == 0 {
-        return None;
-    }
-    match bytes[0] {
-        APPEND => append(bytes),
-        APPEND_RESPONSE => append_response(bytes),
-        APPEND_REJECT => append_reject(bytes),
-        REQUEST_VOTE => request_vote(bytes),
-        REQUEST_VOTE_RESPONSE => request_vote_response(bytes),
-        TERM_NOTICE => term_notice(bytes),
-        _ => None,
+    match Kind::try_from(*bytes.first()?).ok()? {
+        Kind::Append => append(bytes),
+        Kind::AppendResponse => append_response(bytes),
+        Kind::AppendReject => append_reject(bytes),
+        Kind::RequestVote => request_vote(bytes),
+        Kind::RequestVoteResponse => request_vote_response(bytes),
+        Kind::TermNotice => term_notice(bytes),
     }
 }

@@ -5,22 +5,10 @@ use raft_log::{Index, Term};
 
 pub mod decoder;
 pub mod encoder;
+mod kind;
 #[cfg(test)]
 mod tests;
 pub mod theorems;
-
-/// The kinds of letters: the first byte says which it is.
-const APPEND: u8 = 1;
-/// What was appended.
-const APPEND_RESPONSE: u8 = 2;
-/// That it could not be.
-const APPEND_REJECT: u8 = 3;
-/// A candidate asks.
-const REQUEST_VOTE: u8 = 4;
-/// It is answered.
-const REQUEST_VOTE_RESPONSE: u8 = 5;
-/// A term, and nothing else.
-const TERM_NOTICE: u8 = 6;
 
 /// Where the numbers of a letter stand, behind its kind: the term.
 const FIRST: usize = 1;
@@ -37,16 +25,16 @@ pub const BLOCK_AT: usize = 34;
 /// The room that every letter fits.
 pub const MAX_LETTER_BYTES: usize = 4096;
 
-/// A letter; the entries of an append stay where they are, in the block behind its numbers or in the log that it is made from.
-#[derive(Clone, Copy)]
-pub enum Message {
+/// A letter. `E` is what stands for the entries of an append: the block that was read, or, of a letter that is to be made from a log, how many they are.
+#[derive(Drop)]
+pub enum Message<E> {
     /// The entries behind `prev_index`, from the leader of `term`.
     Append {
         term: Term,
         prev_index: Index,
         prev_term: Term,
         commit: Index,
-        count: usize,
+        entries: E,
     },
     /// The log agrees with the leader's up to `index`.
     AppendResponse {

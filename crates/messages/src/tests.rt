@@ -1,18 +1,15 @@
 //! Letters there and back, and damaged ones.
-ghost use Rattle.std.specs.Prelude.{◌≡◌, ◌≤◌, length};
-ghost use Rattle.raft_log.specs.Layout.{memory_words};
+ghost use Rattle.std.specs.Prelude.{◌≤◌, length};
 
 use super::decoder::decode;
 use super::encoder::encode;
 use super::*;
 use raft_log::entries::append_value;
-use raft_log::layout::MEMORY_WORDS;
+use raft_log::layout::{MEMORY_WORDS, Memory};
 use std::test::Fail;
 
 // Fifteen entries of terms 1 to 15, with values as long as they can be.
-fn fill(memory: &mut [u64])
-    requires { length memory.old ≡ memory_words }
-{
+fn fill(memory: &mut Memory) {
     for k in 0..15u8 {
         let _ = append_value(memory, Term(u64::from(k) + 1), &[k; 256]);
     }
@@ -21,10 +18,7 @@ fn fill(memory: &mut [u64])
 fn is_letter(bytes: &[u8], long: usize) -> bool
     requires { long ≤ length bytes.now }
 {
-    match decode(&bytes[..long]) {
-        Some(_) => true,
-        None => false,
-    }
+    decode(&bytes[..long]).is_some()
 }
 
 #[test]
@@ -37,7 +31,7 @@ fn a_full_append_comes_back(rt: HostRuntime) -> Result<(), Fail> {
         prev_index: Index(0),
         prev_term: Term(0),
         commit: Index(3),
-        count: 15,
+        entries: 15,
     };
     let long = encode(sent, &memory, &mut out);
     assert_eq!(rt; long, 4024);
@@ -45,16 +39,16 @@ fn a_full_append_comes_back(rt: HostRuntime) -> Result<(), Fail> {
         Message::Append {
             term,
             commit,
-            count,
+            entries,
             ..
         },
     ) = decode(&out[..long])
     else {
         return Err(Fail::new("no append"));
     };
-    assert_eq!(rt; term.0, 300);
-    assert_eq!(rt; commit.0, 3);
-    assert_eq!(rt; count, 15);
+    assert_eq!(rt; term, Term(300));
+    assert_eq!(rt; commit, Index(3));
+    assert_eq!(rt; entries.len(), 15);
     assert_eq!(rt; out[BLOCK_AT + 10 * 14], 15);
     assert_eq!(rt; out[BLOCK_AT + 10 * 15 + 256 * 14], 14);
     Ok(())
@@ -70,7 +64,7 @@ fn a_damaged_letter_is_refused(rt: HostRuntime) {
         prev_index: Index(13),
         prev_term: Term(13),
         commit: Index(0),
-        count: 2,
+        entries: 2,
     };
     let long = encode(sent, &memory, &mut out);
     assert_eq!(rt; long, 566);
