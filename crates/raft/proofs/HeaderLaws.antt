@@ -10,7 +10,7 @@ use Rattle.raft.specs.declared.header.Machine.{Machine}
 use Rattle.raft.specs.Header.{at_least, ticks, size_of, role_of, role_word, elapsed_word, heard_word, flag_of, flag_word, loaded, stored}
 
 -- a struct that memory can hold as it is
-pub record Held (x : Machine) : Type 0 where
+pub record Held (x : Machine Role) : Type 0 where
   pub some : 1 ≤ x.size.0
   pub few : x.size.0 ≤ 7
   pub one : x.id.0 ≤ 6
@@ -37,11 +37,11 @@ role_back (Follower e h) l = ap (λ n. Follower (ticks n) (flag_of (flag_word h)
 role_back (Candidate e) l = ap (λ n. Candidate (ticks n)) (at_most_same e.0 10 l)
 role_back Leader l = refl
 
-pub length_stored : (m : List ℕ) (x : Machine) → length (stored m x) ≡ length m
+pub length_stored : (m : List ℕ) (x : Machine Role) → length (stored m x) ≡ length m
 unfolding stored
 length_stored m x = simp length-set
 
-pub stored_other : (m : List ℕ) (x : Machine) (i : ℕ) → 8 ≤ i → get_or (stored m x) i 0 ≡ get_or m i 0
+pub stored_other : (m : List ℕ) (x : Machine Role) (i : ℕ) → 8 ≤ i → get_or (stored m x) i 0 ≡ get_or m i 0
 unfolding stored
 stored_other m x i l =
     let n₀ : i ≢ 0 = omega arith in
@@ -55,7 +55,7 @@ stored_other m x i l =
     simp get_or-set_other
 
 -- a word that was set, under words set later
-module _ (m : List ℕ) (x : Machine) (long : length m ≡ memory_words) where
+module _ (m : List ℕ) (x : Machine Role) (long : length m ≡ memory_words) where
   abbrev s₀ : List ℕ
   s₀ = set m 0 x.size.0
 

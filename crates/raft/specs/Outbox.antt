@@ -1,9 +1,10 @@
 -- The letters that are due, one for each machine at most, made from memory as they fly.
-use Rattle.std.specs.Prelude.{◌≡◌, ℕ, zero, suc, ◌+◌, ◌-◌, true, false, cond, List, [], ◌∷◌, ◌++◌, length, drop, Some, None, Option, ◌==◌, slice_index, slice_set}
+use Rattle.std.specs.Prelude.{◌≡◌, ℕ, zero, suc, ◌+◌, ◌-◌, true, false, List, [], ◌∷◌, ◌++◌, length, drop, Some, None, Option, slice_index, slice_set}
 use Rattle.raft_log.specs.Layout.{at_most}
 use Rattle.raft_log.specs.Entries.{last_index, commit_index, term_at}
 use Rattle.raft_log.specs.Block.{log_entries}
 use Rattle.messages.specs.Letter.{Letter, append, append_response, append_reject, request_vote, request_vote_response, term_notice, letter_bytes}
+use Rattle.raft.specs.declared.header.Role.{Role}
 use Rattle.raft.specs.declared.header.Machine.{Machine}
 use Rattle.raft.specs.declared.say.Due.{Due}
 use Rattle.raft.specs.declared.say.Due.TheVariants.{Append, RequestVote, TellTerm, Grant, Deny, Accept, Reject}
@@ -11,13 +12,7 @@ use Rattle.raft.specs.declared.outbox.Next.{Next}
 use Rattle.raft.specs.declared.outbox.Sent.{Sent}
 use Rattle.raft.specs.Header.{loaded}
 use Rattle.raft.specs.Rows.{next_at}
-
--- which letter a word stands for
-abbrev pub due_of : ℕ → Option Due
-due_of w =
-    cond (w == 1) (Some Append)
-    (cond (w == 2) (Some RequestVote)
-    (cond (w == 3) (Some TellTerm) (cond (w == 4) (Some Grant) (cond (w == 5) (Some Deny) (cond (w == 6) (Some Accept) (cond (w == 7) (Some Reject) None))))))
+use Rattle.raft.specs.Say.{due_of}
 
 -- which letter is due to machine j
 abbrev pub due_to : List ℕ → ℕ → Option Due
@@ -31,7 +26,7 @@ abbrev pub count_of : List ℕ → ℕ → ℕ
 count_of m j = at_most (last_index m - prev_of m j) 15
 
 -- the letter of a kind to machine j
-abbrev pub letter_made : List ℕ → Machine → ℕ → Due → Letter
+abbrev pub letter_made : List ℕ → Machine Role → ℕ → Due → Letter
 letter_made m x j Append = append x.term.0 (prev_of m j) (term_at m (prev_of m j)) (commit_index m) (log_entries m (prev_of m j + 1) (count_of m j))
 letter_made m x j RequestVote = request_vote x.term.0 (last_index m) (term_at m (last_index m))
 letter_made m x j TellTerm = term_notice x.term.0
@@ -48,7 +43,7 @@ pub record Mail : Type 0 where
 abbrev pub mail : ℕ → Letter → Mail
 mail j l = record { to = j; letter = l }
 
-abbrev pub mail_at : List ℕ → Machine → ℕ → Option Due → List Mail
+abbrev pub mail_at : List ℕ → Machine Role → ℕ → Option Due → List Mail
 mail_at m x j (Some d) = mail j (letter_made m x j d) ∷ []
 mail_at m x j None = []
 
@@ -63,7 +58,7 @@ mail_due m = mail_from m 0 7
 
 -- the next letter is of a kind and to a machine
 abbrev pub FirstDue : List ℕ → Option Next → Type 0
-FirstDue m (Some r) = (ls : List Mail) × (mail_due m ≡ mail r.to.0 (letter_made m (loaded m) r.to.0 r.due) ∷ ls)
+FirstDue m (Some r) = (ls : List Mail) × (mail_due m ≡ mail r.to.id.0 (letter_made m (loaded m) r.to.id.0 r.due) ∷ ls)
 FirstDue m None = mail_due m ≡ []
 
 -- the first of n machines from j on to which a letter is due

@@ -11,10 +11,10 @@ abbrev pub belongs : ℕ → ℕ → Bool
 belongs i n = nat_le n 7 && nat_lt i n
 
 -- power came: nothing is known but what was safe, and nothing was applied since
-abbrev pub restarted : Machine → ℕ → ℕ → Machine
-restarted x i n = machine n i x.term.0 (Follower (ticks 0) false) 0 false
+abbrev pub restarted : {R : Type 0} → Machine R → ℕ → ℕ → R → Machine R
+restarted x i n r = machine n i x.term.0 r 0 false
 
 -- memory as power comes: no letter is due, and the last decision that was safe as applied is applied again
 unfoldable pub powered : List ℕ → ℕ → ℕ → List ℕ
 powered m i n =
-    cond (belongs i n) (row_set (applied_set (stored m (restarted (loaded m) i n)) (applied_number m - 1)) 29 (λ _. 0)) m
+    cond (belongs i n) (row_set (applied_set (stored m (restarted (loaded m) i n (Follower (ticks 0) false))) (applied_number m - 1)) 29 (λ _. 0)) m

@@ -1,6 +1,7 @@
 -- What a leader makes of the answers to its appends.
 use Rattle.std.specs.Prelude.{ℕ, ◌+◌, Bool, cond, ◌&&◌, List, ◌==◌, nat_le, nat_lt, slice_set}
 use Rattle.raft_log.specs.Entries.{last_index, commit_index}
+use Rattle.raft.specs.declared.header.Role.{Role}
 use Rattle.raft.specs.declared.header.Machine.{Machine}
 use Rattle.raft.specs.declared.say.Due.TheVariants.{Append}
 use Rattle.raft.specs.Header.{at_least}
@@ -23,11 +24,11 @@ unfoldable pub matched_raised : List ℕ → ℕ → ℕ → List ℕ
 matched_raised m f i = slice_set (slice_set m (15 + f) (matched_then m f i)) (22 + f) (next_then m f i)
 
 -- if commit rose, all hear of it; else f gets what it lacks
-unfoldable pub spread : List ℕ → Machine → ℕ → ℕ → List ℕ
+unfoldable pub spread : List ℕ → Machine Role → ℕ → ℕ → List ℕ
 spread m x f commit =
     cond (nat_lt commit (commit_index m)) (said_to_others m x Append) (cond (nat_le (next_at m f) (last_index m)) (said_to m f Append) m)
 
-unfoldable pub ack_taken : List ℕ → Machine → ℕ → ℕ → List ℕ
+unfoldable pub ack_taken : List ℕ → Machine Role → ℕ → ℕ → List ℕ
 ack_taken m x f i =
     cond (nat_le i (last_index m)) (spread (maybe_committed (matched_raised m f i) x.size.0 x.term.0) x f (commit_index m)) m
 

@@ -18,15 +18,15 @@ refusal_number TooLong = 6
 refusal_number Full = 7
 
 -- its log has changed: that has to be made safe
-abbrev pub with_unsettled : Machine → Machine
+abbrev pub with_unsettled : {R : Type 0} → Machine R → Machine R
 with_unsettled x = machine x.size.0 x.id.0 x.term.0 x.role x.since.0 true
 
 -- memory with a proposal taken: the leader itself has it
-unfoldable pub taken : List ℕ → Machine → List ℕ → List ℕ
+unfoldable pub taken : List ℕ → Machine Role → List ℕ → List ℕ
 taken m x v =
     said_to_others (stored (maybe_committed (slice_set (value_appended m x.term.0 v) (15 + x.id.0) (last_index m + 1)) x.size.0 x.term.0) (with_unsettled x)) x Append
 
-abbrev pub propose_as : List ℕ → Machine → Role → List ℕ → Result (List ℕ) Refusal
+abbrev pub propose_as : List ℕ → Machine Role → Role → List ℕ → Result (List ℕ) Refusal
 propose_as m x (Follower e heard) v = Err NotNow
 propose_as m x (Candidate e) v = Err NotNow
 propose_as m x Leader v = cond (value_fits m (length v)) (Ok (taken m x v)) (Err Full)

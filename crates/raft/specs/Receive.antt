@@ -25,7 +25,7 @@ letter_term (request_vote_response t b) = t
 letter_term (term_notice t) = t
 
 -- it heard from the leader of its term; a log that changed has to be made safe
-abbrev pub heard_from : Machine → Bool → Machine
+abbrev pub heard_from : Machine Role → Bool → Machine Role
 heard_from x changed = machine x.size.0 x.id.0 x.term.0 (Follower (ticks 0) true) x.since.0 (x.unsettled || changed)
 
 -- does the log lack any of es behind p?
@@ -33,12 +33,12 @@ abbrev pub log_changes : List ℕ → ℕ → List Entry → Bool
 log_changes m p es = nat_le p 8193 && is_some (conflict (log_of m) p es)
 
 -- an append: taken, and answered with how far the logs agree; or refused, with a hint
-unfoldable pub append_taken : List ℕ → Machine → ℕ → ℕ → ℕ → ℕ → List Entry → List ℕ
+unfoldable pub append_taken : List ℕ → Machine Role → ℕ → ℕ → ℕ → ℕ → List Entry → List ℕ
 append_taken m x f p q k es =
     cond (accepts m p q es) (answered (stored (accepted m p k es) (heard_from x (log_changes m p es))) f Accept (p + length es) 0)
     (answered (stored m (heard_from x false)) f Reject p (hint (log_of m) p q))
 
-abbrev pub append_as : List ℕ → Machine → Role → ℕ → ℕ → ℕ → ℕ → List Entry → List ℕ
+abbrev pub append_as : List ℕ → Machine Role → Role → ℕ → ℕ → ℕ → ℕ → List Entry → List ℕ
 append_as m x (Follower e heard) f p q k es = append_taken m x f p q k es
 append_as m x (Candidate e) f p q k es = m
 append_as m x Leader f p q k es = m
@@ -49,12 +49,12 @@ request_as m (Follower e heard) f i q = said_to m f (vote_due (is_up_to_date (lo
 request_as m (Candidate e) f i q = m
 request_as m Leader f i q = m
 
-abbrev pub vote_as : List ℕ → Machine → Role → ℕ → Bool → List ℕ
+abbrev pub vote_as : List ℕ → Machine Role → Role → ℕ → Bool → List ℕ
 vote_as m x (Follower e heard) f b = m
 vote_as m x (Candidate e) f b = cond b (vote_taken m x e f) m
 vote_as m x Leader f b = m
 
-abbrev pub response_as : List ℕ → Machine → Role → ℕ → ℕ → List ℕ
+abbrev pub response_as : List ℕ → Machine Role → Role → ℕ → ℕ → List ℕ
 response_as m x (Follower e heard) f i = m
 response_as m x (Candidate e) f i = m
 response_as m x Leader f i = ack_taken m x f i
@@ -65,7 +65,7 @@ reject_as m (Candidate e) f p h = m
 reject_as m Leader f p h = reject_taken m f p h
 
 -- a letter of the own term
-abbrev pub handle_with : List ℕ → Machine → ℕ → Letter → List ℕ
+abbrev pub handle_with : List ℕ → Machine Role → ℕ → Letter → List ℕ
 handle_with m x f (append t p q k es) = append_as m x x.role f p q k es
 handle_with m x f (append_response t i) = response_as m x x.role f i
 handle_with m x f (append_reject t p h) = reject_as m x.role f p h
@@ -85,13 +85,13 @@ old_taken m f (request_vote t i q) = said_to m f TellTerm
 old_taken m f (request_vote_response t b) = m
 old_taken m f (term_notice t) = said_to m f TellTerm
 
-abbrev pub taken_by_term : List ℕ → Machine → ℕ → Letter → List ℕ
+abbrev pub taken_by_term : List ℕ → Machine Role → ℕ → Letter → List ℕ
 taken_by_term m x f l =
     cond (nat_lt x.term.0 (letter_term l)) (handled (term_entered m x (letter_term l) false) f l)
     (cond (nat_lt (letter_term l) x.term.0) (old_taken m f l) (handle_with m x f l))
 
 -- memory after a letter from f came; a sender that is none of the machines changes nothing
-abbrev pub letter_taken : List ℕ → Machine → ℕ → Option Letter → List ℕ
+abbrev pub letter_taken : List ℕ → Machine Role → ℕ → Option Letter → List ℕ
 letter_taken m x f none = m
 letter_taken m x f (some l) = cond (nat_lt f x.size.0) (taken_by_term m x f l) m
 
@@ -99,11 +99,11 @@ unfoldable pub received : List ℕ → ℕ → Option Letter → List ℕ
 received m f l = letter_taken m (loaded m) f l
 
 -- is f another machine of the cluster?
-abbrev pub another : Machine → ℕ → Bool
+abbrev pub another : Machine Role → ℕ → Bool
 another x f = nat_lt f x.size.0 && not (f == x.id.0)
 
 -- memory after a letter came that is taken from another machine alone
-abbrev pub letter_from : List ℕ → Machine → ℕ → Option Letter → List ℕ
+abbrev pub letter_from : List ℕ → Machine Role → ℕ → Option Letter → List ℕ
 letter_from m x f none = m
 letter_from m x f (some l) = cond (another x f) (taken_by_term m x f l) m
 

@@ -1,6 +1,7 @@
 -- Rows of seven words, one for each machine: who voted, what each has acknowledged, what it is sent next, and which letter is due to it.
-use Rattle.std.specs.Prelude.{ℕ, zero, suc, ◌+◌, ◌*◌, Bool, cond, not, ◌&&◌, List, length, take, drop, count_by, ◌==◌, nat_eq, nat_lt, slice_index, slice_set}
+use Rattle.std.specs.Prelude.{◌≡◌, ℕ, zero, suc, ◌+◌, ◌*◌, ◌<◌, ◌≢◌, Bool, cond, not, ◌&&◌, List, length, take, drop, count_by, ◌==◌, nat_eq, nat_lt, slice_index, slice_set}
 use Rattle.tracker.specs.Majority.{reached}
+use Rattle.raft.specs.declared.header.Role.{Role}
 use Rattle.raft.specs.declared.header.Machine.{Machine}
 
 -- the first n words of the row at base set to f 0, f 1 ..
@@ -12,12 +13,18 @@ row_put m base f (suc j) = slice_set (row_put m base f j) (base + j) (f j)
 abbrev pub row_set : List ℕ → ℕ → (ℕ → ℕ) → List ℕ
 row_set m base f = row_put m base f 7
 
+-- m₁ is m with a row set to words of which the relation says what they are, for each machine
+pub record SetBy (m : List ℕ) (row : ℕ) (Says : ℕ → ℕ → Type 0) (m₁ : List ℕ) : Type 0 where
+  pub long : length m₁ ≡ length m
+  pub said : (j : ℕ) → j < 7 → Says j (slice_index m₁ (row + j))
+  pub kept : (i : ℕ) → ((j : ℕ) → j < 7 → i ≢ row + j) → slice_index m₁ i ≡ slice_index m i
+
 -- one machine alone has v
 abbrev pub only : ℕ → ℕ → ℕ → ℕ
 only i v j = cond (j == i) v 0
 
 -- each machine of the cluster but this one has v
-abbrev pub others : Machine → ℕ → ℕ → ℕ
+abbrev pub others : Machine Role → ℕ → ℕ → ℕ
 others x v j = cond (nat_lt j x.size.0 && not (j == x.id.0)) v 0
 
 -- who voted for this machine

@@ -1,7 +1,10 @@
 -- Letters that are due: at most one to each machine, by its kind; the letter itself is made when it flies.
-use Rattle.std.specs.Prelude.{ℕ, List, slice_set}
+use Rattle.std.specs.Prelude.{◌≡◌, ℕ, cond, List, ◌==◌, Some, None, Option, Result, slice_set}
+use Rattle.std.specs.Result.{result_ok}
+use Rattle.raft.specs.declared.header.Role.{Role}
 use Rattle.raft.specs.declared.header.Machine.{Machine}
 use Rattle.raft.specs.declared.say.Due.{Due}
+use Rattle.raft.specs.declared.say.NothingDue.{NothingDue}
 use Rattle.raft.specs.declared.say.Due.TheVariants.{Append, RequestVote, TellTerm, Grant, Deny, Accept, Reject}
 use Rattle.raft.specs.Rows.{row_set, only, others}
 
@@ -15,8 +18,18 @@ due_word Deny = 5
 due_word Accept = 6
 due_word Reject = 7
 
+-- the kind that a word stands for, if it stands for one
+abbrev pub due_of : ℕ → Option Due
+due_of w =
+    cond (w == 1) (Some Append)
+    (cond (w == 2) (Some RequestVote)
+    (cond (w == 3) (Some TellTerm) (cond (w == 4) (Some Grant) (cond (w == 5) (Some Deny) (cond (w == 6) (Some Accept) (cond (w == 7) (Some Reject) None))))))
+
+abbrev pub ReadsAs : ℕ → Result Due NothingDue → Type 0
+ReadsAs w r = result_ok r ≡ due_of w
+
 -- a letter to each other machine
-unfoldable pub said_to_others : List ℕ → Machine → Due → List ℕ
+unfoldable pub said_to_others : List ℕ → Machine Role → Due → List ℕ
 said_to_others m x d = row_set m 29 (others x (due_word d))
 
 -- a letter to machine j alone

@@ -1,48 +1,19 @@
 //! Ticks, terms and votes: one that hears from no leader goes to the next term, and stands there if the term is its own.
-ghost use Rattle.std.specs.Prelude.{◌≡◌, ◌<◌, ◌≤◌, ◌||◌, length, ◌==◌};
-ghost use Rattle.raft_log.specs.Layout.{memory_words};
-ghost use Rattle.raft.specs.Election.{owner, older, with_role, in_term, rows_begun, led, stood, campaigned, followed, term_entered, next_term_entered, reminded, waited, asked_again, ticked, wins_now, vote_taken};
+ghost use Rattle.std.specs.Prelude.{◌≡◌, ◌<◌, ◌≤◌, ◌||◌, ◌==◌};
+ghost use Rattle.raft.specs.Election.{owner, rows_begun, led, stood, campaigned, followed, term_entered, next_term_entered, reminded, waited, asked_again, ticked, wins_now, vote_taken};
 
 use super::commit::maybe_commit;
 use super::header::{ELECTION_TICKS, Machine, Role, Ticks, load, store};
-use super::rows::{MATCHED, NEXT, VOTES, is_most, set_all, set_only, set_vote, vote_count};
+use super::rows::{MATCHED, NEXT, Peer, VOTES, is_most, set_all, set_only, set_word, vote_count};
 use super::say::{Due, say_to, say_to_others};
 use raft_log::entries::append_empty;
+use raft_log::layout::Memory;
 use raft_log::{Index, MachineId, Term};
 
 // Who wins with fewer ticks left than this does not lead: others may be leaving the term already.
-const LATE_TICKS: u64 = ELECTION_TICKS - 2;
+const LATE_TICKS: Ticks = Ticks(ELECTION_TICKS - 2);
 
-impl Ticks {
-    fn older(self) -> Ticks
-        ensures { result ≡ older self }
-    {
-        if self.0 < ELECTION_TICKS {
-            Ticks(self.0 + 1)
-        } else {
-            Ticks(ELECTION_TICKS)
-        }
-    }
-}
-
-impl Machine {
-    pub(crate) fn with_role(self, role: Role) -> Machine
-        ensures { result ≡ with_role self role }
-    {
-        Machine { role, ..self }
-    }
-
-    fn in_term(self, term: Term, role: Role) -> Machine
-        ensures { result ≡ in_term self term.0 role }
-    {
-        Machine {
-            term,
-            role,
-            unsettled: true,
-            ..self
-        }
-    }
-
+impl Machine<Role> {
     // The only machine that may stand or lead in a term.
     fn owner_of(self, term: Term) -> MachineId
         requires { 1 ≤ self.size.0 }
@@ -52,16 +23,15 @@ impl Machine {
     }
 }
 
-fn begin_rows(memory: &mut [u64], id: MachineId, last: Index)
-    requires { length memory.old ≡ memory_words }
+fn begin_rows(memory: &mut Memory, id: MachineId, last: Index)
     ensures { memory.new ≡ rows_begun memory.old id.0 last.0 }
 {
     set_only(memory, MATCHED, id, last.0);
     set_all(memory, NEXT, last.0);
 }
 
-fn lead(memory: &mut [u64], machine: Machine, term: Term)
-    requires { (length memory.old ≡ memory_words) × ((1 ≤ machine.size.0) × (machine.size.0 ≤ 7)) }
+fn lead(memory: &mut Memory, machine: Machine<Role>, term: Term)
+    requires { (1 ≤ machine.size.0) × (machine.size.0 ≤ 7) }
     ensures { memory.new ≡ led memory.old machine term.0 }
 {
     let Some(index) = append_empty(memory, term) else {
@@ -77,8 +47,7 @@ fn lead(memory: &mut [u64], machine: Machine, term: Term)
     say_to_others(memory, machine, Due::Append);
 }
 
-fn stand(memory: &mut [u64], machine: Machine, term: Term)
-    requires { length memory.old ≡ memory_words }
+fn stand(memory: &mut Memory, machine: Machine<Role>, term: Term)
     ensures { memory.new ≡ stood memory.old machine term.0 }
 {
     store(memory, machine.in_term(term, Role::Candidate(Ticks(0))));
@@ -86,8 +55,8 @@ fn stand(memory: &mut [u64], machine: Machine, term: Term)
     say_to_others(memory, machine, Due::RequestVote);
 }
 
-fn campaign(memory: &mut [u64], machine: Machine, term: Term)
-    requires { (length memory.old ≡ memory_words) × ((1 ≤ machine.size.0) × (machine.size.0 ≤ 7)) }
+fn campaign(memory: &mut Memory, machine: Machine<Role>, term: Term)
+    requires { (1 ≤ machine.size.0) × (machine.size.0 ≤ 7) }
     ensures { memory.new ≡ campaigned memory.old machine term.0 }
 {
     if is_most(1, machine.size) {
@@ -97,8 +66,8 @@ fn campaign(memory: &mut [u64], machine: Machine, term: Term)
     }
 }
 
-fn follow(memory: &mut [u64], machine: Machine, term: Term, loud: bool)
-    requires { (length memory.old ≡ memory_words) × (1 ≤ machine.size.0) }
+fn follow(memory: &mut Memory, machine: Machine<Role>, term: Term, loud: bool)
+    requires { 1 ≤ machine.size.0 }
     ensures { memory.new ≡ followed memory.old machine term.0 loud }
 {
     store(
@@ -113,36 +82,36 @@ fn follow(memory: &mut [u64], machine: Machine, term: Term, loud: bool)
 }
 
 /// The machine goes to a term: its owner stands, any other follows and says so.
-pub(crate) fn enter_term(memory: &mut [u64], machine: Machine, term: Term, loud: bool)
-    requires { (length memory.old ≡ memory_words) × ((1 ≤ machine.size.0) × (machine.size.0 ≤ 7)) }
+pub(crate) fn enter_term(memory: &mut Memory, machine: Machine<Role>, term: Term, loud: bool)
+    requires { (1 ≤ machine.size.0) × (machine.size.0 ≤ 7) }
     ensures { memory.new ≡ term_entered memory.old machine term.0 loud }
 {
-    if machine.owner_of(term).0 == machine.id.0 {
+    if machine.owner_of(term) == machine.id {
         campaign(memory, machine, term);
     } else {
         follow(memory, machine, term, loud);
     }
 }
 
-fn enter_next_term(memory: &mut [u64], machine: Machine)
-    requires { (length memory.old ≡ memory_words) × ((1 ≤ machine.size.0) × (machine.size.0 ≤ 7)) }
+fn enter_next_term(memory: &mut Memory, machine: Machine<Role>)
+    requires { (1 ≤ machine.size.0) × (machine.size.0 ≤ 7) }
     ensures { memory.new ≡ next_term_entered memory.old machine }
 {
-    if machine.term.0 < u64::MAX {
+    if machine.term < Term(u64::MAX) {
         enter_term(memory, machine, Term(machine.term.0 + 1), true);
     }
 }
 
-fn knows_leader(machine: Machine, heard: bool) -> bool
+fn knows_leader(machine: Machine<Role>, heard: bool) -> bool
     requires { 1 ≤ machine.size.0 }
     ensures { result ≡ (heard || owner machine.size.0 machine.term.0 == machine.id.0) }
 {
-    heard || machine.owner_of(machine.term).0 == machine.id.0
+    heard || machine.owner_of(machine.term) == machine.id
 }
 
 // Who has not heard from the term's leader tells its owner again where it is.
-fn remind(memory: &mut [u64], machine: Machine, heard: bool)
-    requires { (length memory.old ≡ memory_words) × (1 ≤ machine.size.0) }
+fn remind(memory: &mut Memory, machine: Machine<Role>, heard: bool)
+    requires { 1 ≤ machine.size.0 }
     ensures { memory.new ≡ reminded memory.old machine heard }
 {
     if !knows_leader(machine, heard) {
@@ -150,11 +119,11 @@ fn remind(memory: &mut [u64], machine: Machine, heard: bool)
     }
 }
 
-fn wait(memory: &mut [u64], machine: Machine, elapsed: Ticks, heard: bool)
-    requires { (length memory.old ≡ memory_words) × ((1 ≤ machine.size.0) × (machine.size.0 ≤ 7)) }
+fn wait(memory: &mut Memory, machine: Machine<Role>, elapsed: Ticks, heard: bool)
+    requires { (1 ≤ machine.size.0) × (machine.size.0 ≤ 7) }
     ensures { memory.new ≡ waited memory.old machine elapsed heard }
 {
-    if elapsed.0 < ELECTION_TICKS {
+    if elapsed < Ticks(ELECTION_TICKS) {
         store(memory, machine.with_role(Role::Follower(elapsed, heard)));
         remind(memory, machine, heard);
     } else {
@@ -162,11 +131,11 @@ fn wait(memory: &mut [u64], machine: Machine, elapsed: Ticks, heard: bool)
     }
 }
 
-fn ask_again(memory: &mut [u64], machine: Machine, elapsed: Ticks)
-    requires { (length memory.old ≡ memory_words) × ((1 ≤ machine.size.0) × (machine.size.0 ≤ 7)) }
+fn ask_again(memory: &mut Memory, machine: Machine<Role>, elapsed: Ticks)
+    requires { (1 ≤ machine.size.0) × (machine.size.0 ≤ 7) }
     ensures { memory.new ≡ asked_again memory.old machine elapsed }
 {
-    if elapsed.0 < ELECTION_TICKS {
+    if elapsed < Ticks(ELECTION_TICKS) {
         store(memory, machine.with_role(Role::Candidate(elapsed)));
         say_to_others(memory, machine, Due::RequestVote);
     } else {
@@ -175,8 +144,7 @@ fn ask_again(memory: &mut [u64], machine: Machine, elapsed: Ticks)
 }
 
 /// Some time has passed.
-pub fn tick(memory: &mut [u64])
-    requires { length memory.old ≡ memory_words }
+pub fn tick(memory: &mut Memory)
     ensures { memory.new ≡ ticked memory.old }
 {
     let machine = load(memory);
@@ -187,19 +155,19 @@ pub fn tick(memory: &mut [u64])
     }
 }
 
-fn wins(memory: &[u64], machine: Machine, elapsed: Ticks) -> bool
-    requires { (length memory.now ≡ memory_words) × (machine.size.0 ≤ 7) }
+fn wins(memory: &Memory, machine: Machine<Role>, elapsed: Ticks) -> bool
+    requires { machine.size.0 ≤ 7 }
     ensures { result ≡ wins_now memory.now machine elapsed }
 {
-    is_most(vote_count(memory, machine.size), machine.size) && elapsed.0 < LATE_TICKS
+    is_most(vote_count(memory, machine.size), machine.size) && elapsed < LATE_TICKS
 }
 
 /// A candidate got a vote: with more than half it leads.
-pub(crate) fn take_vote(memory: &mut [u64], machine: Machine, elapsed: Ticks, from: MachineId)
-    requires { (length memory.old ≡ memory_words) × ((1 ≤ machine.size.0) × ((machine.size.0 ≤ 7) × (from.0 < 7))) }
-    ensures { memory.new ≡ vote_taken memory.old machine elapsed from.0 }
+pub(crate) fn take_vote(memory: &mut Memory, machine: Machine<Role>, elapsed: Ticks, from: Peer)
+    requires { (1 ≤ machine.size.0) × ((machine.size.0 ≤ 7)) }
+    ensures { memory.new ≡ vote_taken memory.old machine elapsed from.id.0 }
 {
-    set_vote(memory, from);
+    set_word(memory, VOTES, from, 1);
     if wins(memory, machine, elapsed) {
         lead(memory, machine, machine.term);
     }

@@ -1,40 +1,36 @@
 //! A value is proposed: it is refused, or stands last in the leader's log and is sent to all others.
-ghost use Rattle.std.specs.Prelude.{◌≡◌, length, Ok, Err};
-ghost use Rattle.raft_log.specs.Layout.{memory_words};
+ghost use Rattle.std.specs.Prelude.{◌≡◌, Ok, Err};
 ghost use Rattle.raft.specs.Proposal.{refusal_number, with_unsettled, Proposed};
 
 use super::commit::maybe_commit;
 use super::header::{Machine, Role, load, store};
-use super::rows::set_matched;
+use super::rows::{MATCHED, Peer, set_word};
 use super::say::{Due, say_to_others};
 use raft_log::entries::append_value;
-use raft_log::layout::MAX_VALUE_BYTES;
+use raft_log::layout::{MAX_VALUE_BYTES, Memory};
 
-/// Why a proposal is refused.
-#[derive(Clone, Copy)]
+/// Why a proposal is refused, by its number.
+#[derive(Clone, Copy, Debug, PartialEq, Eq)]
 pub enum Refusal {
     /// This machine does not lead.
-    NotNow,
+    NotNow = 3,
     /// It has more than 256 bytes.
-    TooLong,
+    TooLong = 6,
     /// The log has no room for one more.
-    Full,
+    Full = 7,
 }
 
-impl Refusal {
-    pub fn number(self) -> u64
-        ensures { result ≡ refusal_number self }
-    {
-        match self {
-            Refusal::NotNow => 3,
-            Refusal::TooLong => 6,
-            Refusal::Full => 7,
-        }
+impl From<Refusal> for u64 {
+    ghost from_gives = { λ refusal number. number ≡ refusal_number refusal };
+
+    fn from(refusal: Refusal) -> u64 {
+        refusal as u64
     }
 }
 
-impl Machine {
-    pub(crate) fn with_unsettled(self) -> Machine
+impl<R: Copy> Machine<R> {
+    /// Its log has changed: that has to be made safe.
+    pub fn with_unsettled(self) -> Machine<R>
         ensures { result ≡ with_unsettled self }
     {
         Machine {
@@ -45,21 +41,18 @@ impl Machine {
 }
 
 /// Takes a proposal, or says why not; nothing is changed then.
-pub fn propose(memory: &mut [u64], bytes: &[u8]) -> Result<(), Refusal>
-    requires { length memory.old ≡ memory_words }
+pub fn propose(memory: &mut Memory, bytes: &[u8]) -> Result<(), Refusal>
     ensures { Proposed memory.old bytes.now result memory.new }
 {
     if bytes.len() as u64 > MAX_VALUE_BYTES {
         return Err(Refusal::TooLong);
     }
     let machine = load(memory);
-    let Role::Leader = machine.role else {
+    if machine.role != Role::Leader {
         return Err(Refusal::NotNow);
-    };
-    let Some(index) = append_value(memory, machine.term, bytes) else {
-        return Err(Refusal::Full);
-    };
-    set_matched(memory, machine.id, index);
+    }
+    let index = append_value(memory, machine.term, bytes).ok_or(Refusal::Full)?;
+    set_word(memory, MATCHED, Peer { id: machine.id }, index.0);
     maybe_commit(memory, machine.size, machine.term);
     store(memory, machine.with_unsettled());
     say_to_others(memory, machine, Due::Append);

@@ -1,59 +1,71 @@
 //! Letters that are due: at most one to each machine, by its kind; the letter itself is made when it flies.
-ghost use Rattle.std.specs.Prelude.{◌≡◌, ◌<◌, length};
-ghost use Rattle.raft_log.specs.Layout.{memory_words};
-ghost use Rattle.raft.specs.Say.{due_word, said_to_others, said_to, answered};
+ghost use Rattle.std.specs.Prelude.{◌≡◌};
+ghost use Rattle.raft.specs.Say.{due_word, ReadsAs, said_to_others, said_to, answered};
 
-use super::header::Machine;
+use super::header::{Machine, Role};
 use super::rows::{ANSWER, DUE, set_only, set_others};
 use raft_log::MachineId;
+use raft_log::layout::Memory;
 
-/// The kinds of letters.
-#[derive(Clone, Copy)]
+/// The kinds of letters, by the word that stands for each.
+#[derive(Clone, Copy, Debug, PartialEq, Eq)]
 pub enum Due {
-    Append,
-    RequestVote,
-    TellTerm,
-    Grant,
-    Deny,
-    Accept,
-    Reject,
+    Append = 1,
+    RequestVote = 2,
+    TellTerm = 3,
+    Grant = 4,
+    Deny = 5,
+    Accept = 6,
+    Reject = 7,
 }
 
-impl Due {
-    pub(crate) fn word(self) -> u64
-        ensures { result ≡ due_word self }
-    {
-        match self {
-            Due::Append => 1,
-            Due::RequestVote => 2,
-            Due::TellTerm => 3,
-            Due::Grant => 4,
-            Due::Deny => 5,
-            Due::Accept => 6,
-            Due::Reject => 7,
+/// A word that stands for no letter.
+#[derive(Clone, Copy, Debug, PartialEq, Eq)]
+pub struct NothingDue(pub u64);
+
+impl From<Due> for u64 {
+    ghost from_gives = { λ due word. word ≡ due_word due };
+
+    fn from(due: Due) -> u64 {
+        due as u64
+    }
+}
+
+impl TryFrom<u64> for Due {
+    type Error = NothingDue;
+
+    ghost try_from_gives = { ReadsAs };
+
+    fn try_from(word: u64) -> Result<Due, NothingDue> {
+        match word {
+            1 => Ok(Due::Append),
+            2 => Ok(Due::RequestVote),
+            3 => Ok(Due::TellTerm),
+            4 => Ok(Due::Grant),
+            5 => Ok(Due::Deny),
+            6 => Ok(Due::Accept),
+            7 => Ok(Due::Reject),
+            _ => Err(NothingDue(word)),
         }
     }
 }
 
 /// A letter to each other machine.
-pub(crate) fn say_to_others(memory: &mut [u64], machine: Machine, due: Due)
-    requires { length memory.old ≡ memory_words }
+pub(crate) fn say_to_others(memory: &mut Memory, machine: Machine<Role>, due: Due)
     ensures { memory.new ≡ said_to_others memory.old machine due }
 {
-    set_others(memory, DUE, machine, due.word());
+    set_others(memory, DUE, machine, u64::from(due));
 }
 
 /// A letter to one machine alone.
-pub(crate) fn say_to(memory: &mut [u64], to: MachineId, due: Due)
-    requires { length memory.old ≡ memory_words }
+pub(crate) fn say_to(memory: &mut Memory, to: MachineId, due: Due)
     ensures { memory.new ≡ said_to memory.old to.0 due }
 {
-    set_only(memory, DUE, to, due.word());
+    set_only(memory, DUE, to, u64::from(due));
 }
 
 /// An answer to one machine, with the numbers that it carries.
-pub(crate) fn answer(memory: &mut [u64], to: MachineId, due: Due, first: u64, second: u64)
-    requires { length memory.old ≡ memory_words }
+pub(crate) fn answer(memory: &mut Memory, to: MachineId, due: Due, first: u64, second: u64)
     ensures { memory.new ≡ answered memory.old to.0 due first second }
 {
     say_to(memory, to, due);

@@ -2,10 +2,10 @@ use Rattle.std.proofs.Common.{rules}
 use Rattle.raft.specs.Commit.{maybe_committed}
 use Rattle.raft.proofs.commit.maybe_commit.Goals as goal
 
-pub returns-then-term-own : goal.returns-then-term-own
+pub returns-then-eq : goal.returns-then-eq
 unfolding maybe_committed
-returns-then-term-own c = search rules
+returns-then-eq c = search rules
 
-pub returns-else-term-own : goal.returns-else-term-own
+pub returns-else-eq : goal.returns-else-eq
 unfolding maybe_committed
-returns-else-term-own c = search rules
+returns-else-eq c = search rules

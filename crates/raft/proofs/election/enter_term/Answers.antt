@@ -2,10 +2,10 @@ use Rattle.std.proofs.Common.{rules}
 use Rattle.raft.specs.Election.{term_entered}
 use Rattle.raft.proofs.election.enter_term.Goals as goal
 
-pub returns-then-owner_of-machine : goal.returns-then-owner_of-machine
+pub returns-then-eq : goal.returns-then-eq
 unfolding term_entered
-returns-then-owner_of-machine c = search rules
+returns-then-eq c = search rules
 
-pub returns-else-owner_of-machine : goal.returns-else-owner_of-machine
+pub returns-else-eq : goal.returns-else-eq
 unfolding term_entered
-returns-else-owner_of-machine c = search rules
+returns-else-eq c = search rules

@@ -4,4 +4,4 @@ use Rattle.raft.proofs.header.load.Goals as goal
 
 pub returns : goal.returns
 unfolding loaded
-returns c = record { is = cc; some = search rules; few = search rules; one = search rules }
+returns c = record { is = search rules; some = search rules; few = search rules; one = search rules }

@@ -2,14 +2,14 @@ use Rattle.std.proofs.Common.{rules}
 use Rattle.raft.specs.Progress.{spread}
 use Rattle.raft.proofs.progress.spread.Goals as goal
 
-pub returns-then-commit-committed : goal.returns-then-commit-committed
+pub returns-then-lt : goal.returns-then-lt
 unfolding spread
-returns-then-commit-committed c = search rules
+returns-then-lt c = search rules
 
-pub returns-then-next_index-last_index : goal.returns-then-next_index-last_index
+pub returns-then-le : goal.returns-then-le
 unfolding spread
-returns-then-next_index-last_index c = search rules
+returns-then-le c = search rules
 
-pub returns-else-next_index-last_index : goal.returns-else-next_index-last_index
+pub returns-else-le : goal.returns-else-le
 unfolding spread
-returns-else-next_index-last_index c = search rules
+returns-else-le c = search rules

@@ -2,10 +2,10 @@ use Rattle.std.proofs.Common.{rules}
 use Rattle.raft.specs.Progress.{ack_taken}
 use Rattle.raft.proofs.progress.take_ack.Goals as goal
 
-pub returns-then-index-last_index : goal.returns-then-index-last_index
+pub returns-then-le : goal.returns-then-le
 unfolding ack_taken
-returns-then-index-last_index c = search rules
+returns-then-le c = search rules
 
-pub returns-else-index-last_index : goal.returns-else-index-last_index
+pub returns-else-le : goal.returns-else-le
 unfolding ack_taken
-returns-else-index-last_index c = search rules
+returns-else-le c = search rules

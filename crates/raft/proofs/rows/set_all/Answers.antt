@@ -1,14 +1,9 @@
-use Rattle.std.proofs.Common.{◌≡◌, refl, arith}
-use Rattle.raft.specs.Rows.{row_put}
-use Rattle.raft.proofs.RowLaws.{row_put_more}
+use Rattle.std.proofs.Common.{arith, rules}
+use Rattle.raft.proofs.RowLaws.{row_is}
 use Rattle.raft.proofs.rows.set_all.Goals as goal
 
-pub loop-j-init : goal.loop-j-init
-unfolding row_put
-loop-j-init c = refl
-
-pub loop-j-preserved : goal.loop-j-preserved
-loop-j-preserved c = let e = row_put_more c.args.memory.now c.args.row (λ _. c.args.word) c.loop-j.j in cc
-
 pub returns : goal.returns
-returns c = let e : c.loop-j.j ≡ 7 = omega arith in cc
+returns c =
+    let e = c.set_row.ensures in
+    row_is c.args.memory.now c.set_row.new.memory c.args.row (λ _. c.args.word) (omega arith)
+    (record { long = e.long; said = λ j l. let w = e.said j l in search rules; kept = e.kept })
