@@ -8,11 +8,12 @@ use Rattle.raft_log.proofs.ValueLaws.{at_most_le, at_most_same}
 use Rattle.raft_log.proofs.LogLaws.{SameEntries, same_entries, same_commit, same_applied}
 use Rattle.solo.specs.declared.header.Role.{Role}
 use Rattle.solo.specs.declared.header.Role.TheVariants.{Follower, Candidate, Leader}
-use Rattle.solo.specs.declared.header.Machine.{Machine}
-use Rattle.solo.specs.Header.{at_least, ticks, role_of, role_word, elapsed_word, flag_of, flag_word, loaded, stored}
+use Rattle.raft.specs.declared.header.Machine.{Machine}
+use Rattle.solo.specs.Header.{role_of, role_word, elapsed_word, loaded, stored}
+use Rattle.raft.specs.Header.{at_least, ticks, flag_of, flag_word}
 
 -- a struct that memory can hold as it is
-pub record Held (x : Machine) : Type 0 where
+pub record Held (x : Machine Role) : Type 0 where
   pub some : 1 ≤ x.size.0
   pub waits : elapsed_word x.role ≤ 10
 
@@ -31,11 +32,11 @@ flag_back : (b : Bool) → flag_of (flag_word b) ≡ b
 flag_back true = refl
 flag_back false = refl
 
-pub length_stored : (m : List ℕ) (x : Machine) → length (stored m x) ≡ length m
+pub length_stored : (m : List ℕ) (x : Machine Role) → length (stored m x) ≡ length m
 unfolding stored
 length_stored m x = simp length-set
 
-pub stored_other : (m : List ℕ) (x : Machine) (i : ℕ) → 7 ≤ i → get_or (stored m x) i 0 ≡ get_or m i 0
+pub stored_other : (m : List ℕ) (x : Machine Role) (i : ℕ) → 7 ≤ i → get_or (stored m x) i 0 ≡ get_or m i 0
 unfolding stored
 stored_other m x i l =
     let n₀ : i ≢ 0 = omega arith in
@@ -48,7 +49,7 @@ stored_other m x i l =
     simp get_or-set_other
 
 -- a word that was set, under words set later
-module _ (m : List ℕ) (x : Machine) (long : length m ≡ memory_words) where
+module _ (m : List ℕ) (x : Machine Role) (long : length m ≡ memory_words) where
   abbrev s₀ : List ℕ
   s₀ = set m 0 x.size.0
 
@@ -121,7 +122,7 @@ unfolding loaded
 loaded_held m = record { some = at_least_le (get_or m 0 0) 1; waits = role_waits (get_or m 3 0) (get_or m 4 0) }
 
 -- the log does not change
-module _ (m : List ℕ) (x : Machine) where
+module _ (m : List ℕ) (x : Machine Role) where
   pub stored_entries : SameEntries m (stored m x)
   stored_entries = same_entries m (stored m x) (stored_other m x 64 (omega arith)) (λ i l. stored_other m x i (omega arith))
 

@@ -1,33 +1,24 @@
 -- What a proposal does: it is refused, or stands last in the leader's log.
-use Rattle.std.specs.Prelude.{◌≡◌, ℕ, ◌+◌, true, cond, List, length, Ok, Err, Result, nat_lt}
+use Rattle.std.specs.Prelude.{◌≡◌, ℕ, ◌+◌, cond, List, length, Ok, Err, Result, nat_lt}
 use Rattle.raft_log.specs.Entries.{last_index, value_fits, value_appended, commit_raised}
 use Rattle.solo.specs.declared.header.Role.{Role}
 use Rattle.solo.specs.declared.header.Role.TheVariants.{Follower, Candidate, Leader}
-use Rattle.solo.specs.declared.header.Machine.{Machine}
-use Rattle.solo.specs.declared.proposal.Refusal.{Refusal}
-use Rattle.solo.specs.declared.proposal.Refusal.TheVariants.{NotNow, TooLong, Full}
-use Rattle.solo.specs.Header.{machine, loaded, stored}
-use Rattle.solo.specs.Election.{most_of}
-
--- the number of a refusal
-abbrev pub refusal_number : Refusal → ℕ
-refusal_number NotNow = 3
-refusal_number TooLong = 6
-refusal_number Full = 7
-
--- its log has changed: that has to be made safe
-abbrev pub with_unsettled : Machine → Machine
-with_unsettled x = machine x.size.0 x.id.0 x.term.0 x.role x.since.0 true
+use Rattle.raft.specs.declared.header.Machine.{Machine}
+use Rattle.raft.specs.declared.proposal.Refusal.{Refusal}
+use Rattle.raft.specs.declared.proposal.Refusal.TheVariants.{NotNow, TooLong, Full}
+use Rattle.raft.specs.Proposal.{with_unsettled}
+use Rattle.solo.specs.Header.{loaded, stored}
+use Rattle.raft.specs.Rows.{most_of}
 
 -- the leader itself has entry i: with one machine that is more than half
-unfoldable pub own_acked : List ℕ → Machine → ℕ → List ℕ
+unfoldable pub own_acked : List ℕ → Machine Role → ℕ → List ℕ
 own_acked m x i = cond (most_of 1 x.size.0) (commit_raised m i) m
 
 -- memory with a proposal taken
-unfoldable pub taken : List ℕ → Machine → List ℕ → List ℕ
+unfoldable pub taken : List ℕ → Machine Role → List ℕ → List ℕ
 taken m x v = stored (own_acked (value_appended m x.term.0 v) x (last_index m + 1)) (with_unsettled x)
 
-abbrev pub propose_as : List ℕ → Machine → Role → List ℕ → Result (List ℕ) Refusal
+abbrev pub propose_as : List ℕ → Machine Role → Role → List ℕ → Result (List ℕ) Refusal
 propose_as m x (Follower e) v = Err NotNow
 propose_as m x (Candidate e) v = Err NotNow
 propose_as m x Leader v = cond (value_fits m (length v)) (Ok (taken m x v)) (Err Full)

@@ -1,13 +1,10 @@
 //! The first words of a machine's memory, as a struct.
-ghost use Rattle.std.specs.Prelude.{◌≡◌, ℕ, ◌<◌, ◌≤◌, length};
-ghost use Rattle.raft_log.specs.Layout.{memory_words};
-ghost use Rattle.solo.specs.Header.{at_least, role_of, role_word, elapsed_word, flag_word, loaded, stored};
+ghost use Rattle.std.specs.Prelude.{◌≡◌, ◌≤◌};
+ghost use Rattle.solo.specs.Header.{role_of, role_word, elapsed_word, loaded, stored};
 
-use raft_log::layout::at_most;
+use raft::header::{ClusterSize, ELECTION_TICKS, Machine, Ticks};
+use raft_log::layout::Memory;
 use raft_log::{MachineId, Number, Term};
-
-/// Ticks that a machine waits for a leader before it goes to the next term.
-pub const ELECTION_TICKS: u64 = 10;
 
 const SIZE: usize = 0;
 
@@ -23,105 +20,69 @@ const SINCE: usize = 5;
 
 const UNSETTLED: usize = 6;
 
-/// How many machines there are.
-#[derive(Clone, Copy, PartialEq, Eq)]
-pub struct ClusterSize(pub u64);
-
-/// How many ticks have passed.
-#[derive(Clone, Copy, PartialEq, Eq)]
-pub struct Ticks(pub u64);
-
 /// What each kind of machine knows. One that does not lead counts the ticks since it came to its term or last heard from the leader.
-#[derive(Clone, Copy)]
+#[derive(Clone, Copy, Debug, PartialEq, Eq)]
 pub enum Role {
     Follower(Ticks),
     Candidate(Ticks),
     Leader,
 }
 
-#[derive(Clone, Copy)]
-pub struct Machine {
-    pub size: ClusterSize,
-    pub id: MachineId,
-    pub term: Term,
-    pub role: Role,
-    /// The last decision that was applied since power came, or 0.
-    pub since: Number,
-    /// Term or log have changed since memory was last made safe.
-    pub unsettled: bool,
-}
-
-fn at_least(n: u64, limit: u64) -> u64
-    ensures is { result ≡ at_least n limit }
-    ensures above { limit ≤ result }
-{
-    if limit < n { n } else { limit }
-}
-
-// A word that is no role counts as a follower.
-fn role_of(word: u64, elapsed: u64) -> Role
-    ensures { result ≡ role_of word elapsed }
-{
-    let waited = Ticks(at_most(elapsed, ELECTION_TICKS));
-    if word == 1 {
-        return Role::Candidate(waited);
+impl Role {
+    // A word that is no role counts as a follower.
+    fn from_words(word: u64, elapsed: u64) -> Role
+        ensures { result ≡ role_of word elapsed }
+    {
+        let waited = Ticks(elapsed.min(ELECTION_TICKS));
+        match word {
+            1 => Role::Candidate(waited),
+            2 => Role::Leader,
+            _ => Role::Follower(waited),
+        }
     }
-    if word == 2 {
-        return Role::Leader;
-    }
-    Role::Follower(waited)
-}
 
-fn role_word(role: Role) -> u64
-    ensures { result ≡ role_word role }
-{
-    match role {
-        Role::Follower(_) => 0,
-        Role::Candidate(_) => 1,
-        Role::Leader => 2,
+    fn word(self) -> u64
+        ensures { result ≡ role_word self }
+    {
+        match self {
+            Role::Follower(_) => 0,
+            Role::Candidate(_) => 1,
+            Role::Leader => 2,
+        }
+    }
+
+    fn elapsed(self) -> u64
+        ensures { result ≡ elapsed_word self }
+    {
+        match self {
+            Role::Follower(waited) | Role::Candidate(waited) => waited.0,
+            Role::Leader => 0,
+        }
     }
 }
 
-fn elapsed_word(role: Role) -> u64
-    ensures { result ≡ elapsed_word role }
-{
-    match role {
-        Role::Follower(waited) => waited.0,
-        Role::Candidate(waited) => waited.0,
-        Role::Leader => 0,
-    }
-}
-
-fn flag_word(flag: bool) -> u64
-    ensures { result ≡ flag_word flag }
-{
-    if flag { 1 } else { 0 }
-}
-
-pub fn load(memory: &[u64]) -> Machine
-    requires { length memory.now ≡ memory_words }
+pub fn load(memory: &Memory) -> Machine<Role>
     ensures is { result ≡ loaded memory.now }
     ensures some { 1 ≤ result.size.0 }
 {
     Machine {
-        size: ClusterSize(at_least(memory[SIZE], 1)),
+        size: ClusterSize(memory[SIZE].max(1)),
         id: MachineId(memory[ID]),
         term: Term(memory[TERM]),
-        role: role_of(memory[ROLE], memory[ELAPSED]),
+        role: Role::from_words(memory[ROLE], memory[ELAPSED]),
         since: Number(memory[SINCE]),
         unsettled: memory[UNSETTLED] == 1,
     }
 }
 
-pub fn store(memory: &mut [u64], machine: Machine)
-    requires { length memory.old ≡ memory_words }
+pub fn store(memory: &mut Memory, machine: Machine<Role>)
     ensures { memory.new ≡ stored memory.old machine }
 {
     memory[SIZE] = machine.size.0;
     memory[ID] = machine.id.0;
     memory[TERM] = machine.term.0;
-    memory[ROLE] = role_word(machine.role);
-    memory[ELAPSED] = elapsed_word(machine.role);
+    memory[ROLE] = machine.role.word();
+    memory[ELAPSED] = machine.role.elapsed();
     memory[SINCE] = machine.since.0;
-    memory[UNSETTLED] = flag_word(machine.unsettled);
+    memory[UNSETTLED] = u64::from(machine.unsettled);
 }

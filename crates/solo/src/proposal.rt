@@ -1,51 +1,17 @@
 //! A value is proposed: it is refused, or stands last in the leader's log.
-ghost use Rattle.std.specs.Prelude.{◌≡◌, ◌≤◌, length, Ok, Err};
-ghost use Rattle.raft_log.specs.Layout.{memory_words};
-ghost use Rattle.solo.specs.Proposal.{refusal_number, with_unsettled, own_acked, Proposed};
+ghost use Rattle.std.specs.Prelude.{◌≡◌, Ok, Err};
+ghost use Rattle.solo.specs.Proposal.{own_acked, Proposed};
 
 use super::election::one_is_most;
-use super::header::{Machine, Role, load, store};
+use super::header::{Role, load, store};
+use raft::header::Machine;
+use raft::proposal::Refusal;
 use raft_log::Index;
 use raft_log::entries::{append_value, commit_to};
-use raft_log::layout::MAX_VALUE_BYTES;
-
-/// Why a proposal is refused.
-#[derive(Clone, Copy)]
-pub enum Refusal {
-    /// This machine does not lead.
-    NotNow,
-    /// It has more than 256 bytes.
-    TooLong,
-    /// The log has no room for one more.
-    Full,
-}
-
-impl Refusal {
-    pub fn number(self) -> u64
-        ensures { result ≡ refusal_number self }
-    {
-        match self {
-            Refusal::NotNow => 3,
-            Refusal::TooLong => 6,
-            Refusal::Full => 7,
-        }
-    }
-}
-
-impl Machine {
-    fn with_unsettled(self) -> Machine
-        ensures { result ≡ with_unsettled self }
-    {
-        Machine {
-            unsettled: true,
-            ..self
-        }
-    }
-}
+use raft_log::layout::{MAX_VALUE_BYTES, Memory};
 
 // The leader itself has the entry: with one machine that is more than half.
-fn own_ack(memory: &mut [u64], machine: Machine, index: Index)
-    requires { length memory.old ≡ memory_words }
+fn own_ack(memory: &mut Memory, machine: Machine<Role>, index: Index)
     ensures { memory.new ≡ own_acked memory.old machine index.0 }
 {
     if one_is_most(machine.size) {
@@ -54,20 +20,17 @@ fn own_ack(memory: &mut [u64], machine: Machine, index: Index)
 }
 
 /// Takes a proposal, or says why not; nothing is changed then.
-pub fn propose(memory: &mut [u64], bytes: &[u8]) -> Result<(), Refusal>
-    requires { length memory.old ≡ memory_words }
+pub fn propose(memory: &mut Memory, bytes: &[u8]) -> Result<(), Refusal>
     ensures { Proposed memory.old bytes.now result memory.new }
 {
     if bytes.len() as u64 > MAX_VALUE_BYTES {
         return Err(Refusal::TooLong);
     }
     let machine = load(memory);
-    let Role::Leader = machine.role else {
+    if machine.role != Role::Leader {
         return Err(Refusal::NotNow);
-    };
-    let Some(index) = append_value(memory, machine.term, bytes) else {
-        return Err(Refusal::Full);
-    };
+    }
+    let index = append_value(memory, machine.term, bytes).ok_or(Refusal::Full)?;
     own_ack(memory, machine, index);
     store(memory, machine.with_unsettled());
     Ok(())

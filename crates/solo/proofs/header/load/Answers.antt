@@ -4,4 +4,4 @@ use Rattle.solo.proofs.header.load.Goals as goal
 
 pub returns : goal.returns
 unfolding loaded
-returns c = record { is = cc; some = search rules }
+returns c = record { is = search rules; some = search rules }

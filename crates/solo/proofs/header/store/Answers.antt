@@ -1,6 +1,7 @@
+use Rattle.std.proofs.Common.{rules}
 use Rattle.solo.specs.Header.{stored}
 use Rattle.solo.proofs.header.store.Goals as goal
 
 pub returns : goal.returns
 unfolding stored
-returns c = cc
+returns c = search rules

@@ -6,13 +6,13 @@ pub returns-then-bytes-gt-MAX_VALUE_BYTES : goal.returns-then-bytes-gt-MAX_VALUE
 unfolding proposed taken
 returns-then-bytes-gt-MAX_VALUE_BYTES c = search rules
 
-pub returns-in_default : goal.returns-in_default
+pub returns-then-ne : goal.returns-then-ne
 unfolding proposed taken
-returns-in_default c = search rules
+returns-then-ne c = search rules
 
-pub returns-in_default-append_value : goal.returns-in_default-append_value
+pub returns-in_err-index : goal.returns-in_err-index
 unfolding proposed taken
-returns-in_default-append_value c = search rules
+returns-in_err-index c = search rules
 
 pub returns : goal.returns
 unfolding proposed taken
