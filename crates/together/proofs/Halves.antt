@@ -1,5 +1,6 @@
 -- The committed index as the entry's answer has it.
 use Rattle.std.proofs.Common.{◌≡◌, ℕ, ◌*◌, ◌<◌, ◌≤◌, Bool, true, false, not, eqb, leb, ◌⊎◌, List, [], ◌∷◌, length, get_or, Some, None, sym, refl, ap, ◌∙◌, subst, inl, inr, arith}
+use Rattle.std.proofs.lemmas.List.Elements.{at_from_Contains}
 use Rattle.std.proofs.lemmas.List.Sums.{length-filter}
 use Rattle.std.proofs.lemmas.Bool.{ltb-true, lt-ltb, le-leb, lt-leb, eq-eqb}
 use Rattle.tracker.specs.Majority.{reached, Quorum, CommittedSays}
@@ -44,7 +45,7 @@ fits_none (k ∷ ks) (inr l) = lt-leb (length (k ∷ ks)) 1024 l
 pub says_index : (ks : List ℕ) (k : LogIndex) → CommittedSays ks (Some k) → HalfSays ks (half_fits ks) (Index k.0)
 unfolding CommittedSays HalfSays
 says_index ks k (small, c) =
-    let has = c.one_of in
+    let has = at_from_Contains ks k.0 c.one_of in
     subst (λ t. HalfSays ks t (Index k.0)) (sym (fits_some ks (omega (arith, has.1)) small)) (
       k.0,
       refl,

@@ -31,27 +31,27 @@ abbrev pub after : ℕ → ℕ
 after n = min (n + 1) last_index
 
 -- nothing is known of the machine: it is probed at n, and at 1 at least
-unfoldable pub fresh : Index → Progress
+abbrev pub fresh : Index → Progress
 fresh n = progress 0 (max 1 n.0) Probe
 
 -- back to what it is known to have, in either state
-unfoldable pub turned : ProgressState → Progress → Progress
+abbrev pub turned : ProgressState → Progress → Progress
 turned s p = record { matched = p.matched; next_index = index (after (matched_of p)); state = s }
 
 -- it has acknowledged n: neither number falls, and the next is after n; the last index is refused
-unfoldable pub acknowledged : Index → Progress → Progress
+abbrev pub acknowledged : Index → Progress → Progress
 acknowledged n p = cond (nat_lt n.0 last_index) (progress (max (matched_of p) n.0) (max (next_of p) (after n.0)) p.state) p
 
 -- whether it was known to have less
-unfoldable pub news : Index → Progress → Bool
+abbrev pub news : Index → Progress → Bool
 news n p = nat_lt n.0 last_index && nat_lt (matched_of p) n.0
 
 -- what is sent up to n counts as on its way: the next is after n, and after what it has
-unfoldable pub sent : Index → Progress → Progress
+abbrev pub sent : Index → Progress → Progress
 sent n p = record { matched = p.matched; next_index = index (after (max (matched_of p) n.0)); state = p.state }
 
 -- a rejection says nothing new: while probing, if it is not of the index before the next; while replicating, if the machine has that index
-unfoldable pub stale_in : ProgressState → Index → Progress → Bool
+abbrev pub stale_in : ProgressState → Index → Progress → Bool
 stale_in Probe rejected p = not (next_of p == rejected.0 + 1)
 stale_in Replicate rejected p = nat_le rejected.0 (matched_of p)
 
@@ -59,10 +59,10 @@ abbrev pub stale : Index → Progress → Bool
 stale rejected p = stale_in p.state rejected p
 
 -- where to go on after a rejection: while probing at what was rejected or after the hint, whichever is less; always after what it has
-unfoldable pub retry_in : ProgressState → Index → Index → Progress → ℕ
+abbrev pub retry_in : ProgressState → Index → Index → Progress → ℕ
 retry_in Probe rejected hint p = max (min rejected.0 (after hint.0)) (after (matched_of p))
 retry_in Replicate rejected hint p = after (matched_of p)
 
 -- an append at `rejected` was refused, with a hint up to where the logs may agree
-unfoldable pub rejected_at : Index → Index → Progress → Progress
+abbrev pub rejected_at : Index → Index → Progress → Progress
 rejected_at rejected hint p = cond (stale rejected p) p (record { matched = p.matched; next_index = index (retry_in p.state rejected hint p); state = p.state })

@@ -9,7 +9,7 @@ stands None granted = Some granted
 stands (Some first) granted = Some first
 
 -- the answers after one more; a voter that there is no place for does not count
-unfoldable pub recorded : List (Option Bool) → ℕ → Bool → List (Option Bool)
+abbrev pub recorded : List (Option Bool) → ℕ → Bool → List (Option Bool)
 recorded answers voter granted = slice_set answers voter (stands (slice_index_or answers voter None) granted)
 
 -- whether an answer is there, and is this one
@@ -18,7 +18,7 @@ answers_so granted None = false
 answers_so granted (Some given) = cond granted given (not given)
 
 -- how many of the first `size` voters gave this answer
-unfoldable pub count_of : Bool → List (Option Bool) → ℕ → ℕ
+abbrev pub count_of : Bool → List (Option Bool) → ℕ → ℕ
 count_of granted answers size = count_by (answers_so granted) (take size answers)
 
 -- how the vote of the first `size` voters stands

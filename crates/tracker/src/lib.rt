@@ -1,5 +1,6 @@
+//! What a leader or a candidate knows of the other machines: how far each of them is, what more than half have, and how they voted.
 #![tactic(auto)]
-// What a leader or a candidate knows of the other machines: how far each of them is, what more than half have, and how they voted.
+
 pub mod majority;
 pub mod progress;
 pub mod theorems;

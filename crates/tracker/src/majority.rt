@@ -1,13 +1,13 @@
-// What more than half of the voters have.
-ghost use Rattle.std.specs.Prelude.{◌≡◌, ◌*◌, ◌≤◌, ◌&&◌, ltb, length, if◌then◌else◌, nat_lt};
-ghost use Rattle.tracker.specs.Majority.{reached, CommittedSays, vote_result};
+//! What more than half of the voters have.
+ghost use Rattle.std.specs.Prelude.{◌≡◌, ◌≤◌, length};
+ghost use Rattle.tracker.specs.Majority.{quorum_has, CommittedSays, vote_result};
 
 use raft_log::Index;
 
-// How a vote stands.
-#[derive(Clone, Copy)]
+/// How a vote stands.
+#[derive(Clone, Copy, Debug, PartialEq, Eq)]
 pub enum VoteResult {
-    // It depends on those that have not answered.
+    /// It depends on those that have not answered.
     Pending,
     Lost,
     Won,
@@ -16,63 +16,44 @@ pub enum VoteResult {
 // More are refused: the work grows with the square of their number.
 const MOST_VOTERS: usize = 1024;
 
-// How many have got to `index`.
-fn count_reached(indices: &[u64], index: u64) -> usize
-    ensures is { result ≡ reached indices.now index }
-    ensures most { result ≤ length indices.now }
-{
-    let mut count: usize = 0;
-    for other in indices {
-        if index <= *other {
-            count += 1;
-        }
-    }
-    count
-}
-
 // Whether more than half have got to `index`.
+#[tactic(auto, unfolding(crate::specs::Majority::reached))]
 fn quorum_has(indices: &[u64], index: u64) -> bool
     requires { length indices.now ≤ 1024 }
-    ensures { result ≡ nat_lt (length indices.now) (2 * reached indices.now index) }
+    ensures { result ≡ quorum_has indices.now index }
 {
-    indices.len() < 2 * count_reached(indices, index)
+    // A sum has no branch in its loop: a count of those that a filter lets through takes twice as long.
+    let reached: usize = indices
+        .iter()
+        .map(|other| usize::from(index <= *other))
+        .sum();
+    reached > indices.len() / 2
 }
 
-// The larger of the best so far and `index`, if more than half have that.
-fn better(indices: &[u64], best: u64, index: u64) -> u64
-    requires { length indices.now ≤ 1024 }
-    ensures { result ≡ (if ltb best index && nat_lt (length indices.now) (2 * reached indices.now index) then index else best) }
-{
-    if best < index && quorum_has(indices, index) {
-        index
-    } else {
-        best
-    }
-}
-
-// The largest index that more than half have; none for none of them, or for more than 1,024.
+/// The largest index that more than half have; none for none of them, or for more than 1,024.
+#[tactic(auto, unfolding(crate::specs::Majority::CommittedSays))]
 pub fn committed_index(indices: &[u64]) -> Option<Index>
     ensures { CommittedSays indices.now result }
 {
-    if indices.len() == 0 || indices.len() > MOST_VOTERS {
+    if indices.len() > MOST_VOTERS {
         return None;
     }
-    let mut best: u64 = 0;
-    for index in indices {
-        best = better(indices, best, *index);
-    }
-    Some(Index(best))
+    indices
+        .iter()
+        .copied()
+        .filter(|index| quorum_has(indices, *index))
+        .max()
+        .map(Index)
 }
 
-// How the vote of `size` voters stands, of whom so many granted and so many refused.
+/// How the vote of `size` voters stands, of whom so many granted and so many refused.
 pub fn vote_result(size: usize, granted: usize, refused: usize) -> VoteResult
     ensures { result ≡ vote_result size granted refused }
 {
     let half = size / 2;
     if size == 0 || granted > half {
-        return VoteResult::Won;
-    }
-    if size.saturating_sub(refused) > half {
+        VoteResult::Won
+    } else if size.saturating_sub(refused) > half {
         VoteResult::Pending
     } else {
         VoteResult::Lost
@@ -83,18 +64,11 @@ pub fn vote_result(size: usize, granted: usize, refused: usize) -> VoteResult
 mod tests {
     use super::*;
 
-    fn number(index: Option<Index>) -> Option<u64> {
-        match index {
-            Some(Index(number)) => Some(number),
-            None => None,
-        }
-    }
-
     #[test]
     fn committed_rows(rt: HostRuntime) {
-        assert_eq!(rt; number(committed_index(&[2, 2, 2, 4, 5])), Some(2));
-        assert_eq!(rt; number(committed_index(&[5])), Some(5));
-        assert_eq!(rt; number(committed_index(&[3, 9])), Some(3));
-        assert_eq!(rt; number(committed_index(&[])), None);
+        assert_eq!(rt; committed_index(&[2, 2, 2, 4, 5]), Some(Index(2)));
+        assert_eq!(rt; committed_index(&[5]), Some(Index(5)));
+        assert_eq!(rt; committed_index(&[3, 9]), Some(Index(3)));
+        assert_eq!(rt; committed_index(&[]), None);
     }
 }

@@ -1,18 +1,18 @@
-// How far another machine is known to have the log, and what it is sent next.
+//! How far another machine is known to have the log, and what it is sent next.
 ghost use Rattle.std.specs.Prelude.{◌≡◌, ◌≤◌, not};
 ghost use Rattle.tracker.specs.declared.progress.ProgressState.TheVariants.{Probe, Replicate};
 ghost use Rattle.tracker.specs.Progress.{Ahead, fresh, turned, acknowledged, news, sent, stale, retry_in, rejected_at, matched_of, next_of, index, after};
 
 use raft_log::Index;
 
-// Probe: one append at a time until the logs are known to agree. Replicate: what is sent counts as on its way.
-#[derive(Clone, Copy)]
+/// Probe: one append at a time until the logs are known to agree. Replicate: what is sent counts as on its way.
+#[derive(Clone, Copy, Debug, PartialEq, Eq)]
 pub enum ProgressState {
     Probe,
     Replicate,
 }
 
-#[derive(Clone, Copy)]
+#[derive(Clone, Copy, Debug, PartialEq, Eq)]
 pub struct Progress {
     pub matched: Index,
     pub next_index: Index,
@@ -31,10 +31,9 @@ impl Progress {
         ensures is { result ≡ fresh next_index }
         ensures ahead { Ahead result }
     {
-        let next_index = Index(next_index.0.max(1));
         Progress {
             matched: Index(0),
-            next_index,
+            next_index: next_index.max(Index(1)),
             state: ProgressState::Probe,
         }
     }
@@ -46,13 +45,20 @@ impl Progress {
         *self = Progress::new(next_index);
     }
 
+    // Back to what the machine is known to have.
+    fn turn(&mut self, state: ProgressState)
+        ensures { self.new ≡ turned state self.old }
+    {
+        self.next_index = index_after(self.matched);
+        self.state = state;
+    }
+
     pub fn become_probe(&mut self)
         ensures is { self.new ≡ turned Probe self.old }
         ensures ahead { Ahead self.old → Ahead self.new }
         ensures same { matched_of self.new ≡ matched_of self.old }
     {
-        self.next_index = index_after(self.matched);
-        self.state = ProgressState::Probe;
+        self.turn(ProgressState::Probe);
     }
 
     pub fn become_replicate(&mut self)
@@ -60,33 +66,32 @@ impl Progress {
         ensures ahead { Ahead self.old → Ahead self.new }
         ensures same { matched_of self.new ≡ matched_of self.old }
     {
-        self.next_index = index_after(self.matched);
-        self.state = ProgressState::Replicate;
+        self.turn(ProgressState::Replicate);
     }
 
-    // The machine acknowledged `acked`: whether it was known to have less.
+    /// The machine acknowledged `acked`: whether it was known to have less.
     pub fn maybe_update(&mut self, acked: Index) -> bool
         ensures is { result ≡ news acked self.old }
         ensures then { self.new ≡ acknowledged acked self.old }
         ensures ahead { Ahead self.old → Ahead self.new }
         ensures rises { matched_of self.old ≤ matched_of self.new }
     {
-        if acked.0 == u64::MAX {
+        if acked == Index(u64::MAX) {
             return false;
         }
-        let advanced = self.matched.0 < acked.0;
-        self.matched = Index(self.matched.0.max(acked.0));
-        self.next_index = Index(self.next_index.0.max(acked.0 + 1));
+        let advanced = self.matched < acked;
+        self.matched = self.matched.max(acked);
+        self.next_index = self.next_index.max(index_after(acked));
         advanced
     }
 
-    // What was sent, up to `last`, counts as on its way.
+    /// What was sent, up to `last`, counts as on its way.
     pub fn optimistic_update(&mut self, last: Index)
         ensures is { self.new ≡ sent last self.old }
         ensures ahead { Ahead self.old → Ahead self.new }
         ensures same { matched_of self.new ≡ matched_of self.old }
     {
-        self.next_index = index_after(Index(self.matched.0.max(last.0)));
+        self.next_index = index_after(self.matched.max(last));
     }
 
     // Whether a rejection at `rejected` says nothing new.
@@ -94,8 +99,8 @@ impl Progress {
         ensures { result ≡ stale rejected self.now }
     {
         match self.state {
-            ProgressState::Probe => self.next_index.0 == 0 || self.next_index.0 - 1 != rejected.0,
-            ProgressState::Replicate => rejected.0 <= self.matched.0,
+            ProgressState::Probe => self.next_index.0.checked_sub(1) != Some(rejected.0),
+            ProgressState::Replicate => rejected <= self.matched,
         }
     }
 
@@ -105,12 +110,12 @@ impl Progress {
     {
         let least = index_after(self.matched);
         match self.state {
-            ProgressState::Probe => Index(rejected.0.min(index_after(match_hint).0).max(least.0)),
+            ProgressState::Probe => rejected.min(index_after(match_hint)).max(least),
             ProgressState::Replicate => least,
         }
     }
 
-    // An append at `rejected` was refused: whether that is news, and then the next index falls.
+    /// An append at `rejected` was refused: whether that is news, and then the next index falls.
     pub fn maybe_decr_to(&mut self, rejected: Index, match_hint: Index) -> bool
         ensures is { result ≡ not (stale rejected self.old) }
         ensures then { self.new ≡ rejected_at rejected match_hint self.old }
@@ -134,12 +139,12 @@ mod tests {
     fn falls_back_and_goes_on(rt: HostRuntime) {
         let mut progress = Progress::new(Index(10));
         assert!(rt; progress.maybe_decr_to(Index(9), Index(2)));
-        assert_eq!(rt; progress.next_index.0, 3);
+        assert_eq!(rt; progress.next_index, Index(3));
         assert!(rt; !progress.maybe_decr_to(Index(9), Index(2)));
         assert!(rt; progress.maybe_update(Index(5)));
         progress.become_replicate();
         progress.optimistic_update(Index(8));
-        assert_eq!(rt; progress.matched.0, 5);
-        assert_eq!(rt; progress.next_index.0, 9);
+        assert_eq!(rt; progress.matched, Index(5));
+        assert_eq!(rt; progress.next_index, Index(9));
     }
 }

@@ -7,12 +7,12 @@ pub returns : goal.returns
 unfolding reached
 returns c =
     record {
-      five = committed_is _ 2 0 refl refl refl refl refl;
-      one = committed_is _ 5 0 refl refl refl refl refl;
-      two = committed_is _ 3 0 refl refl refl refl refl;
+      five = committed_is _ 2 0 refl;
+      one = committed_is _ 5 0 refl;
+      two = committed_is _ 3 0 refl;
       none = committed_none;
-      m009 = committed_is _ 5 1 refl refl refl refl refl;
-      m010 = committed_is _ 6 2 refl refl refl refl refl;
-      m015 = committed_is _ 103 2 refl refl refl refl refl;
-      m016 = committed_is _ 102 1 refl refl refl refl refl;
+      m009 = committed_is _ 5 1 refl;
+      m010 = committed_is _ 6 2 refl;
+      m015 = committed_is _ 103 2 refl;
+      m016 = committed_is _ 102 1 refl;
     }
