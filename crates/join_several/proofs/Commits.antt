@@ -15,7 +15,7 @@ use Rattle.raft.specs.Commit.{quorum_index, maybe_committed}
 use Rattle.protocol.specs.Lists.{pick}
 use Rattle.protocol.specs.Log.{Log, term_before}
 use Rattle.protocol.specs.History.{count}
-use Rattle.machine_several.specs.Step.{is_majority, majority_index, maybe_commit}
+use Rattle.machine.specs.Step.{is_majority, majority_index, maybe_commit}
 use Rattle.join_several.specs.Stands.{conf, lift_log}
 use Rattle.join_several.proofs.Lifts.{cond_pick, lift_length, lift_term}
 

@@ -24,7 +24,7 @@ use Rattle.raft.proofs.RowLaws.{row_put_same}
 use Rattle.protocol.specs.Lists.{pick}
 use Rattle.protocol.specs.Log.{Log, term_before, last_term}
 use Rattle.machine.specs.Machine.{Machine, Role, follower, candidate, leader, Letter, append, request, vote, ack, reject, here, Out, out}
-use Rattle.machine_several.specs.Step.{to_others, request_of, append_at}
+use Rattle.machine.specs.Step.{to_others, request_of, append_at}
 use Rattle.join_several.specs.Stands.{conf, lift_log, Leads, RoleStands, Stands}
 use Rattle.join_several.specs.Does.{lift_letter, lift_mail, posted}
 use Rattle.join_several.proofs.Frames.{due_row_long, due_row_before, due_row_behind}

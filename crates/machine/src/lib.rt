@@ -5,6 +5,7 @@ ghost use Rattle.std.specs.Prelude.{◌≡◌, ℕ, List};
 ghost use Rattle.machine.specs.Theorems.{InitialRefines, ItemsAreMoves, GlobalOrder, OrderOnce, Agree, SamePlaces, SameNumbers, Further};
 ghost use Rattle.machine.specs.Theorems.{OneLeader, OneVote, AcksHeld, CommitRises, TermsRise, EventsExtend, StableGrows, TermsLast, LogsStaySmall};
 ghost use Rattle.machine.specs.Maps.{StepNatural, DecidedNatural, StopNatural};
+ghost use Rattle.machine.specs.Hints.{shorter, by_term, ShorterAnswers, ByTermAnswers};
 ghost use Rattle.machine.specs.Example.{ExampleRun};
 
 /// Whatever happens in a world is a row of permitted moves, and each letter that flew stays true.
@@ -57,5 +58,12 @@ pub fn contents_are_not_looked_at()
 
 /// A run of three machines in which leaders fall, an empty entry is renewed, and something is decided.
 pub fn three_machines_decide()
-    ensures { ExampleRun }
+    ensures shorter { ExampleRun shorter }
+    ensures by_term { ExampleRun by_term }
+{}
+
+/// What a machine answers to an append, by either way of hinting.
+pub fn refusals_carry_a_hint()
+    ensures shorter { ShorterAnswers ℕ }
+    ensures by_term { ByTermAnswers ℕ }
 {}

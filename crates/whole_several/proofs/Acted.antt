@@ -9,13 +9,13 @@ use Rattle.protocol.specs.Lists.{upd, In, All, Begins}
 use Rattle.protocol.specs.Log.{Log, term_at}
 use Rattle.protocol.proofs.Updates.{upd_same, upd_other}
 use Rattle.machine.specs.Machine.{Machine, Out, Outcome, Input, Persistent, persist, decided}
-use Rattle.machine_several.specs.Step.{step}
-use Rattle.machine_several.specs.Maps.{map_log, map_machine, map_outcome}
-use Rattle.machine_several.specs.World.{World as Theory, Mail, post, longer, Fate, whole, early, late, Item, input, Possible, Unchanged, Settles, Allowed, proposals_after, settled, next, Reachable}
-use Rattle.machine_several.proofs.MapLogs.{log_length}
-use Rattle.machine_several.proofs.Terms.{TermsBelow, terms_next}
-use Rattle.machine_several.proofs.Steps.{runs_one, order_grows, step_decided}
-use Rattle.machine_several.proofs.Sames.{same_log, step_extends}
+use Rattle.machine.specs.Step.{step}
+use Rattle.machine.specs.Maps.{map_log, map_machine, map_outcome}
+use Rattle.machine.specs.World.{World as Theory, Mail, post, longer, Fate, whole, early, late, Item, input, Possible, Unchanged, Settles, Allowed, proposals_after, settled, next, Reachable}
+use Rattle.machine.proofs.MapLogs.{log_length}
+use Rattle.machine.proofs.Terms.{TermsBelow, terms_next}
+use Rattle.machine.proofs.Steps.{runs_one, order_grows, step_decided}
+use Rattle.machine.proofs.Sames.{same_log, step_extends}
 use Rattle.join_several.specs.Stands.{conf}
 use Rattle.join_several.specs.Does.{posted, Does}
 use Rattle.together.specs.House.{pick, each, nth_value, Far, may_apply, far_after}

@@ -6,11 +6,11 @@ use Rattle.messages.specs.Letter.{Letter as Message, request_vote_response, lett
 use Rattle.protocol.specs.Lists.{In, All, Begins}
 use Rattle.raft.specs.Header.{loaded}
 use Rattle.machine.specs.Machine.{Machine as Model, Letter, append, request, vote, ack, reject, here, restart}
-use Rattle.machine_several.specs.Maps.{map_letter}
-use Rattle.machine_several.specs.World.{World as Theory, mail, initial, RunsTo, At}
-use Rattle.machine_several.proofs.Steps.{runs_none, runs_trans, order_ok}
-use Rattle.machine_several.proofs.Theorems.{one_vote}
-use Rattle.machine_several.proofs.Stable.{terms_last}
+use Rattle.machine.specs.Maps.{map_letter}
+use Rattle.machine.specs.World.{World as Theory, mail, initial, RunsTo, At}
+use Rattle.machine.proofs.Steps.{runs_none, runs_trans, order_ok}
+use Rattle.machine.proofs.Theorems.{one_vote}
+use Rattle.machine.proofs.Stable.{terms_last}
 use Rattle.join_several.specs.Stands.{conf}
 use Rattle.join_several.specs.Does.{lift_letter}
 use Rattle.together.specs.House.{pick, every, same, Applied, nth_value, by_order}

@@ -16,13 +16,13 @@ use Rattle.raft.specs.Receive.{received_from_another}
 use Rattle.protocol.specs.Lists.{In}
 use Rattle.protocol.specs.Log.{Entry, Log, entry_at, term_at, decisions}
 use Rattle.machine.specs.Machine.{Letter, append, request, vote, ack, reject, here, Outcome, tick, receive, Input, event, proposal}
-use Rattle.machine_several.specs.Step.{step}
-use Rattle.machine_several.specs.Maps.{map_entry, map_log, map_machine, map_letter, map_input, map_outcome}
-use Rattle.machine_several.specs.World.{World as Theory, mail, Possible, Reachable}
-use Rattle.machine_several.proofs.MapLogs.{log_length, decisions_map}
-use Rattle.machine_several.proofs.Maps.{step_map}
-use Rattle.machine_several.proofs.Steps.{step_small, step_commit}
-use Rattle.machine_several.proofs.Agreeing.{appends_agree}
+use Rattle.machine.specs.Step.{step}
+use Rattle.machine.specs.Maps.{map_entry, map_log, map_machine, map_letter, map_input, map_outcome}
+use Rattle.machine.specs.World.{World as Theory, mail, Possible, Reachable}
+use Rattle.machine.proofs.MapLogs.{log_length, decisions_map}
+use Rattle.machine.proofs.Maps.{step_map}
+use Rattle.machine.proofs.Steps.{step_small, step_commit}
+use Rattle.machine.proofs.Agreeing.{appends_agree}
 use Rattle.join_several.specs.Stands.{conf, lift_entry, lift_log, Stands}
 use Rattle.join_several.specs.Does.{lift_letter, Room, Does}
 use Rattle.join_several.proofs.Ticks.{ticked_does}

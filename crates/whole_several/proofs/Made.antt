@@ -16,7 +16,7 @@ use Rattle.raft.specs.Apply.{settled, applied_up_to, advanced}
 use Rattle.raft.proofs.HeaderLaws.{length_stored, stored_other}
 use Rattle.protocol.specs.Lists.{Begins}
 use Rattle.machine.specs.Machine.{Machine, decided}
-use Rattle.machine_several.specs.Maps.{map_machine}
+use Rattle.machine.specs.Maps.{map_machine}
 use Rattle.join_several.specs.Stands.{lift_log, RoleStands, Stands}
 use Rattle.join_several.proofs.Frames.{role_alike}
 use Rattle.together.specs.House.{pick, every, each, same, Applied, applied, Far, next_ok, may_apply, larger, got_to, all_in_turn, far_after, nth_value, by_order}

@@ -5,10 +5,10 @@ use Rattle.std.proofs.lemmas.Bool.{lt-ltb, eq-eqb, ne_eqb, and_from, cases_eq, n
 use Rattle.protocol.specs.Lists.{In, All, Apart, Begins}
 use Rattle.protocol.proofs.Updates.{upd_same}
 use Rattle.machine.specs.Machine.{Out, Input}
-use Rattle.machine_several.specs.Step.{step}
-use Rattle.machine_several.specs.World.{World as Theory, Mail, post, whole, input, next, initial, RunsTo, Reachable}
-use Rattle.machine_several.proofs.Terms.{TermsBelow}
-use Rattle.machine_several.proofs.Steps.{order_ok, runs_trans}
+use Rattle.machine.specs.Step.{step}
+use Rattle.machine.specs.World.{World as Theory, Mail, post, whole, input, next, initial, RunsTo, Reachable}
+use Rattle.machine.proofs.Terms.{TermsBelow}
+use Rattle.machine.proofs.Steps.{order_ok, runs_trans}
 use Rattle.join_several.specs.Stands.{conf}
 use Rattle.together.specs.House.{pick, or, every, any, each, propose, how_far, Far, all_in_turn, far_after, all_apart, an_order, begins, by_order}
 use Rattle.together.specs.Promise.{Letter, Ran, Machine, machine_at, set_machine, Flown, flown, World, Thing, power, says, delivers, ticks, to_whom, before, after_machine, with_proposal, after_thing, applied_right}

@@ -4,10 +4,10 @@ use Rattle.std.proofs.lemmas.List.{append-nil, take_all}
 use Rattle.raft_log.specs.Entries.{applied_number, decided as decided_number}
 use Rattle.protocol.specs.Log.{decisions}
 use Rattle.machine.specs.Machine.{Machine as Model, event, tick as model_tick, decided}
-use Rattle.machine_several.specs.World.{World as Theory}
-use Rattle.machine_several.proofs.Steps.{commit_up}
-use Rattle.machine_several.proofs.AloneHolds.{alone_decided, alone_order_up}
-use Rattle.machine_several.proofs.Alone.{alone_tick_silent}
+use Rattle.machine.specs.World.{World as Theory}
+use Rattle.machine.proofs.Steps.{commit_up}
+use Rattle.machine.proofs.AloneHolds.{alone_decided, alone_order_up}
+use Rattle.machine.proofs.Alone.{alone_tick_silent}
 use Rattle.join_several.specs.Stands.{conf}
 use Rattle.together.specs.House.{pick, each, Applied, Far}
 use Rattle.together.specs.Promise.{tick, Letter as Wire, Ran, runs, last_since, most, Machine, machine_at, set_machine, World, world, Flown, flown, ticks, to_whom, event_for, proper, before, thing_ran, after_machine, with_proposal, after_thing, all_tick, all_come, round, rounds, most_applied}

@@ -7,8 +7,8 @@ use Rattle.messages.proofs.RoundTrip.{round_trip, letters_short}
 use Rattle.raft.specs.Outbox.{Mail as DueMail}
 use Rattle.protocol.specs.Lists.{In, All}
 use Rattle.machine.specs.Machine.{Out}
-use Rattle.machine_several.specs.Maps.{map_out}
-use Rattle.machine_several.specs.World.{World as Theory, Mail, mail, post}
+use Rattle.machine.specs.Maps.{map_out}
+use Rattle.machine.specs.World.{World as Theory, Mail, mail, post}
 use Rattle.join_several.specs.Does.{lift_mail}
 use Rattle.together.specs.House.{every, each, nth_value}
 use Rattle.together.specs.Promise.{are_bytes, Letter as Wire, letter, flown}

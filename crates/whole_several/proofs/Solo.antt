@@ -12,11 +12,11 @@ use Rattle.raft.specs.Proposal.{taken, propose_as, proposed}
 use Rattle.protocol.specs.Log.{entry, decisions}
 use Rattle.protocol.proofs.Decisions.{decisions_none, decisions_some, decisions-++}
 use Rattle.machine.specs.Machine.{Machine as Model, Outcome, proposal, decided}
-use Rattle.machine_several.specs.Maps.{map_machine}
-use Rattle.machine_several.specs.World.{World as Theory, initial}
-use Rattle.machine_several.proofs.Alone.{own_proposed, alone_proposal}
-use Rattle.machine_several.proofs.Counts.{counts}
-use Rattle.machine_several.proofs.Steps.{runs_trans, decided_up}
+use Rattle.machine.specs.Maps.{map_machine}
+use Rattle.machine.specs.World.{World as Theory, initial}
+use Rattle.machine.proofs.Alone.{own_proposed, alone_proposal}
+use Rattle.machine.proofs.Counts.{counts}
+use Rattle.machine.proofs.Steps.{runs_trans, decided_up}
 use Rattle.join_several.specs.Stands.{conf, RoleStands, Stands}
 use Rattle.together.specs.House.{pick, or, every, any, those, same, propose, Applied, Far, got_to, far_after, nth_value, by_order}
 use Rattle.together.specs.Promise.{last_since, are_bytes, said, Ran, runs, Machine, machine_at, set_machine, World, world, Flown, says, to_whom, event_for, before, thing_ran, rounds, enough_up, all_got, most_applied, proposing, Takes, Calm}

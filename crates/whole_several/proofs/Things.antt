@@ -20,13 +20,13 @@ use Rattle.protocol.specs.Lists.{upd, In, All, Begins}
 use Rattle.protocol.specs.Log.{decisions}
 use Rattle.protocol.proofs.Updates.{upd_same, upd_other}
 use Rattle.machine.specs.Machine.{Machine as Model, of_term, tick as model_tick, receive, Input, event, proposal, restart, decided}
-use Rattle.machine_several.specs.Step.{step}
-use Rattle.machine_several.specs.Maps.{map_log, map_persistent, map_machine, map_outcome}
-use Rattle.machine_several.proofs.MapLogs.{log_length, decisions_map}
-use Rattle.machine_several.specs.World.{World as Theory, Mail, mail, early, Item, power as model_power, input, Possible, Allowed, proposals_after, next as next_world, Reachable}
-use Rattle.machine_several.proofs.Terms.{TermsBelow, terms_next}
-use Rattle.machine_several.proofs.Steps.{runs_one, runs_none, runs_trans, order_grows, decided_stable}
-use Rattle.machine_several.proofs.Counts.{counts}
+use Rattle.machine.specs.Step.{step}
+use Rattle.machine.specs.Maps.{map_log, map_persistent, map_machine, map_outcome}
+use Rattle.machine.proofs.MapLogs.{log_length, decisions_map}
+use Rattle.machine.specs.World.{World as Theory, Mail, mail, early, Item, power as model_power, input, Possible, Allowed, proposals_after, next as next_world, Reachable}
+use Rattle.machine.proofs.Terms.{TermsBelow, terms_next}
+use Rattle.machine.proofs.Steps.{runs_one, runs_none, runs_trans, order_grows, decided_stable}
+use Rattle.machine.proofs.Counts.{counts}
 use Rattle.join_several.specs.Stands.{conf}
 use Rattle.join_several.specs.Does.{Does}
 use Rattle.join_several.proofs.Outs.{log_long}

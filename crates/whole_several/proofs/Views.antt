@@ -10,9 +10,9 @@ use Rattle.raft_log.proofs.LogLaws.{commit_most}
 use Rattle.raft_log.proofs.ViewLaws.{number_counts, decision_at}
 use Rattle.protocol.specs.Log.{with_content, decisions}
 use Rattle.machine.specs.Machine.{Machine, decided}
-use Rattle.machine_several.specs.Maps.{map_log}
-use Rattle.machine_several.proofs.MapLogs.{map_take}
-use Rattle.machine_several.proofs.Maps.{decided_map}
+use Rattle.machine.specs.Maps.{map_log}
+use Rattle.machine.proofs.MapLogs.{map_take}
+use Rattle.machine.proofs.Maps.{decided_map}
 use Rattle.join_several.specs.Stands.{lift_entry, lift_log}
 
 -- what the entries of a memory hold, seen as entries of the theory

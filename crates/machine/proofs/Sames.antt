@@ -12,12 +12,12 @@ use Rattle.protocol.proofs.Updates.{upd_same}
 use Rattle.protocol.proofs.Grows.{matching_grows}
 use Rattle.protocol.proofs.Runs.{moves_grow}
 use Rattle.machine.specs.Machine.{Conf, Machine, Input, restart, decided}
-use Rattle.machine_several.specs.Step.{step}
-use Rattle.machine_several.specs.World.{World, whole, input, Possible, next, At, Reachable}
-use Rattle.machine_several.specs.Fits.{state_of, Refines}
-use Rattle.machine_several.proofs.Agreeing.{matching_agree}
-use Rattle.machine_several.proofs.Steps.{runs_one}
-use Rattle.machine_several.proofs.Theorems.{runs_refine, reachable_refines, at_stable, events_extend}
+use Rattle.machine.specs.Step.{step}
+use Rattle.machine.specs.World.{World, whole, input, Possible, next, At, Reachable}
+use Rattle.machine.specs.Fits.{state_of, Refines}
+use Rattle.machine.proofs.Agreeing.{matching_agree}
+use Rattle.machine.proofs.Steps.{runs_one}
+use Rattle.machine.proofs.Theorems.{runs_refine, reachable_refines, at_stable, events_extend}
 
 -- two logs that match one history, with the same terms at all places, are the same
 pub matching_same : (g : History) (l h : Log ℕ) → Matching g l → Matching g h → length l ≡ length h → ((i : ℕ) → i < length l → term_at l i ≡ term_at h i) → l ≡ h

@@ -8,7 +8,7 @@ use Rattle.protocol.specs.History.{count, owner as owner_of}
 use Rattle.protocol.proofs.Updates.{pick_both, upd_same}
 use Rattle.protocol.proofs.Logs.{term_same, push_length, push_last, last_some, renew_index_is, renew_length, renew_last}
 use Rattle.machine.specs.Machine.{Conf, Machine, machine, Role, follower, candidate, leader, Letter, here, Out, out, Outcome, outcome}
-use Rattle.machine_several.specs.Step.{owner, is_majority, to_others, broadcast, request_of, append_at, majority_index, maybe_commit, new_leader, become_leader, as_candidate, poll, as_follower, enter, ticked, reminder, tick_election, tick_as, on_tick, proposed, propose_as, append_proposal, on_proposal}
+use Rattle.machine.specs.Step.{owner, is_majority, to_others, broadcast, request_of, append_at, majority_index, maybe_commit, new_leader, become_leader, as_candidate, poll, as_follower, enter, ticked, reminder, tick_election, tick_as, on_tick, proposed, propose_as, append_proposal, on_proposal}
 
 pick_true : {A : Type 0} (b : Bool) (x y : A) → b ≡ true → pick b x y ≡ x
 pick_true b x y e = ap (λ (z : Bool). pick z x y) e

@@ -13,13 +13,13 @@ use Rattle.protocol.proofs.Logs.{covers_content}
 use Rattle.protocol.proofs.Quorums.{majorities_meet}
 use Rattle.protocol.proofs.Commits.{lead_covers}
 use Rattle.machine.specs.Machine.{Conf, Role, leader, decided}
-use Rattle.machine_several.specs.Step.{is_majority}
-use Rattle.machine_several.specs.World.{World, Reachable}
-use Rattle.machine_several.specs.Fits.{LeaderFits, RoleFits, Refines}
-use Rattle.machine_several.proofs.Fits.{majority_true}
-use Rattle.machine_several.proofs.Decided.{take_begins}
-use Rattle.machine_several.proofs.Theorems.{reachable_refines}
-use Rattle.machine_several.proofs.Steps.{decided_up}
+use Rattle.machine.specs.Step.{is_majority}
+use Rattle.machine.specs.World.{World, Reachable}
+use Rattle.machine.specs.Fits.{LeaderFits, RoleFits, Refines}
+use Rattle.machine.proofs.Fits.{majority_true}
+use Rattle.machine.proofs.Decided.{take_begins}
+use Rattle.machine.proofs.Theorems.{reachable_refines}
+use Rattle.machine.proofs.Steps.{decided_up}
 
 -- every list begins with the empty one
 none_begins : (xs ys : List ℕ) → xs ≡ [] → Begins xs ys

@@ -4,10 +4,10 @@ use Rattle.protocol.specs.Lists.{All, Apart, Begins}
 use Rattle.protocol.specs.Log.{decisions}
 use Rattle.protocol.proofs.Updates.{upd_same}
 use Rattle.machine.specs.Machine.{Conf, Machine, Input, restart, decided}
-use Rattle.machine_several.specs.Step.{step}
-use Rattle.machine_several.specs.World.{World, Fate, whole, early, late, Item, input, Possible, Allowed, proposals_after, next, run, AllAllowed, initial, At, RunsTo, Reachable}
-use Rattle.machine_several.proofs.Counts.{counts}
-use Rattle.machine_several.proofs.Theorems.{reachable_refines, global_order, order_once, logs_stay_small}
+use Rattle.machine.specs.Step.{step}
+use Rattle.machine.specs.World.{World, Fate, whole, early, late, Item, input, Possible, Allowed, proposals_after, next, run, AllAllowed, initial, At, RunsTo, Reachable}
+use Rattle.machine.proofs.Counts.{counts}
+use Rattle.machine.proofs.Theorems.{reachable_refines, global_order, order_once, logs_stay_small}
 
 -- one item more
 pub runs_one : (c : Conf) (w : World) (a : Item) → Allowed c w a → RunsTo c w (next c w a)

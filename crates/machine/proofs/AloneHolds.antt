@@ -15,14 +15,14 @@ use Rattle.protocol.proofs.Decisions.{decisions_take, decisions_same}
 use Rattle.protocol.proofs.States.{acked_front}
 use Rattle.protocol.proofs.Complete.{complete}
 use Rattle.machine.specs.Machine.{Conf, Machine, Role, follower, candidate, leader, Letter, append, request, vote, ack, reject, here, of_term, Out, out, Outcome, outcome, tick, receive, Input, event, proposal, restart, decided}
-use Rattle.machine_several.specs.Step.{owner, is_majority, broadcast, request_of, majority_index, maybe_commit, become_leader, as_candidate, poll, as_follower, enter, ticked, reminder, tick_election, tick_as, on_tick, prev_matches, handle_append, matched, handle_ack, handle_reject, handle_as, handle, handle_old, enter_higher, handle_higher, on_letter, propose_as, append_proposal, on_proposal, step}
-use Rattle.machine_several.specs.World.{World, whole, early, late, Item, power, input, next, run, initial, Reachable}
-use Rattle.machine_several.specs.Fits.{state_of}
-use Rattle.machine_several.proofs.Worlds.{still_up, up_before}
-use Rattle.machine_several.proofs.Theorems.{reachable_refines}
-use Rattle.machine_several.proofs.Steps.{decided_up}
-use Rattle.machine_several.proofs.Sames.{commit_long}
-use Rattle.machine_several.proofs.Safes.{stable_same}
+use Rattle.machine.specs.Step.{owner, is_majority, broadcast, request_of, majority_index, maybe_commit, become_leader, as_candidate, poll, as_follower, enter, ticked, reminder, tick_election, tick_as, on_tick, prev_matches, handle_append, matched, handle_ack, handle_reject, handle_as, handle, handle_old, enter_higher, handle_higher, on_letter, propose_as, append_proposal, on_proposal, step}
+use Rattle.machine.specs.World.{World, whole, early, late, Item, power, input, next, run, initial, Reachable}
+use Rattle.machine.specs.Fits.{state_of}
+use Rattle.machine.proofs.Worlds.{still_up, up_before}
+use Rattle.machine.proofs.Theorems.{reachable_refines}
+use Rattle.machine.proofs.Steps.{decided_up}
+use Rattle.machine.proofs.Sames.{commit_long}
+use Rattle.machine.proofs.Safes.{stable_same}
 
 -- WHAT WAS COMMITTED, one machine alone acknowledged, so its log covers it
 one_acked : (f : ℕ → Bool) → Majority 1 f → f 0 ≡ true
@@ -147,7 +147,7 @@ module _ (c : Conf) (one : c.size ≡ 1) where
   tick_full m (candidate v) h = election_full m h
   tick_full m (leader a b) h = h
 
-  append_full : {A : Type 0} (f : ℕ) (m : Machine A) (p q k : ℕ) (es : Log A) → Full (handle_append f m p q k es).now
+  append_full : {A : Type 0} (f : ℕ) (m : Machine A) (p q k : ℕ) (es : Log A) → Full (handle_append c f m p q k es).now
   unfolding handle_append
   append_full {A} f m p q k es = pick_both (λ (d : Outcome A). Full d.now) (prev_matches m.log p q) _ _ (λ _. tt) (λ _. tt)
 

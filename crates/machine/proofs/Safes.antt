@@ -9,10 +9,10 @@ use Rattle.protocol.proofs.Updates.{pick_both}
 use Rattle.protocol.proofs.Logs.{renew_index_is}
 use Rattle.protocol.proofs.Decisions.{decisions_none, decisions_empty, decisions-++}
 use Rattle.machine.specs.Machine.{Conf, Machine, Role, follower, candidate, leader, here, Out, Outcome, outcome, restart, decided}
-use Rattle.machine_several.specs.Step.{owner, is_majority, broadcast, request_of, become_leader, as_candidate, poll, as_follower, enter, ticked, reminder, tick_election, tick_as, on_tick, propose_as, append_proposal, on_proposal}
-use Rattle.machine_several.specs.World.{World, Reachable}
-use Rattle.machine_several.specs.Fits.{state_of}
-use Rattle.machine_several.proofs.Theorems.{reachable_refines}
+use Rattle.machine.specs.Step.{owner, is_majority, broadcast, request_of, become_leader, as_candidate, poll, as_follower, enter, ticked, reminder, tick_election, tick_as, on_tick, propose_as, append_proposal, on_proposal}
+use Rattle.machine.specs.World.{World, Reachable}
+use Rattle.machine.specs.Fits.{state_of}
+use Rattle.machine.proofs.Theorems.{reachable_refines}
 
 -- between events a machine that is up has in memory the term and the log that a stop would leave
 stable_state : (c : Conf) (w : World) (j : ℕ) → Reachable c w → w.up j ≡ true → state_of (restart (w.stable j)) ≡ state_of (w.memory j)
