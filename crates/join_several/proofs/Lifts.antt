@@ -1,7 +1,7 @@
 -- What is read off a row of entries is the same in the log of the theory.
 use Rattle.std.proofs.Common.{◌≡◌, ℕ, zero, suc, pred, ◌-◌, min, Bool, true, false, cond, ◌&&◌, ◌||◌, eqb, ltb, leb, List, [], ◌∷◌, ◌++◌, length, get_or, take, drop, sym, refl, ap, ◌∙◌, inl, inr, arith}
 use mathlib.Core.Option.{Option, none, some}
-use Rattle.std.proofs.lemmas.List.{length-map, map-append}
+use Rattle.std.proofs.lemmas.List.{length-map, map-append, take-map, drop-map}
 use Rattle.std.proofs.lemmas.Bool.{eq-eqb, ne_eqb, cases_eq}
 use Rattle.raft_log.specs.Layout.{at_most}
 use Rattle.raft_log.specs.Block.{Entry as Row}
@@ -13,7 +13,6 @@ use Rattle.protocol.specs.Lists.{pick}
 use Rattle.protocol.specs.Log.{Entry, entry, Log, entry_at, term_at, content_at, term_before, last_term, is_none, renew_index, renew, has_entries, merge, with_content, decisions}
 use Rattle.machine.specs.Hints.{index_by_term}
 use Rattle.machine.specs.Step.{is_up_to_date, prev_matches, hint}
-use Rattle.machine.proofs.MapLogs.{map_take, map_drop}
 use Rattle.join_several.specs.Stands.{conf, lift_entry, lift_log}
 
 -- a test of the code is a choice of the theory
@@ -35,11 +34,11 @@ lift_length l = length-map l lift_entry
 
 pub lift_take : (k : ℕ) (l : List Row) → lift_log (take k l) ≡ take k (lift_log l)
 unfolding lift_log
-lift_take k l = sym (map_take lift_entry k l)
+lift_take k l = sym (take-map lift_entry k l)
 
 pub lift_drop : (k : ℕ) (l : List Row) → lift_log (drop k l) ≡ drop k (lift_log l)
 unfolding lift_log
-lift_drop k l = sym (map_drop lift_entry k l)
+lift_drop k l = sym (drop-map lift_entry k l)
 
 pub lift_append : (l r : List Row) → lift_log (l ++ r) ≡ lift_log l ++ lift_log r
 unfolding lift_log

@@ -27,13 +27,13 @@ module _ (c : Conf) (one : c.size ≡ 1) where
   unfolding owner_of
   owner_alone t = ap (λ (n : ℕ). owner_of n t) one ∙ omega arith
 
-  majority_alone : (f : ℕ → Bool) → f 0 ≡ true → is_majority c f ≡ true
+  pub majority_alone : (f : ℕ → Bool) → f 0 ≡ true → is_majority c f ≡ true
   unfolding is_majority count
   majority_alone f e =
       let k : count f c.size ≡ 1 = ap (count f) one ∙ ap (λ (b : Bool). pick b 1 0) e in
       lt-ltb c.size (2 * count f c.size) (omega (arith, one, k))
 
-  index_alone : (a : ℕ → ℕ) (k : ℕ) → k ≤ a 0 → majority_index c a k ≡ k
+  pub index_alone : (a : ℕ → ℕ) (k : ℕ) → k ≤ a 0 → majority_index c a k ≡ k
   unfolding majority_index
   index_alone a zero h = refl
   index_alone a (suc k) h = pick_true _ (suc k) (majority_index c a k) (majority_alone (λ j. leb (suc k) (a j)) (le-leb (suc k) (a 0) h))

@@ -1,8 +1,8 @@
 -- A machine alone has in its log all that was ever decided, and while it leads it holds all of its log for decided. Assumes nothing.
-use Rattle.std.proofs.Common.{◌≡◌, ℕ, zero, suc, ◌+◌, ◌*◌, ◌<◌, ◌≤◌, Bool, true, false, ◌&&◌, eqb, ltb, leb, List, [], ◌∷◌, ◌++◌, length, take, sym, refl, ap, ◌∙◌, subst, inl, inr, arith}
+use Rattle.std.proofs.Common.{◌≡◌, ℕ, suc, ◌+◌, ◌<◌, ◌≤◌, Bool, true, false, ◌&&◌, eqb, ltb, leb, List, [], ◌∷◌, ◌++◌, length, take, sym, refl, ap, ◌∙◌, subst, inl, inr, arith}
 use mathlib.Core.Option.{some}
 use Rattle.std.proofs.lemmas.List.{take_all}
-use Rattle.std.proofs.lemmas.Bool.{both_ways, cases_Bool, cases_eq, and_parts, and_cases, ltb-true, lt-ltb, ltb-false, le-leb, eqb-false}
+use Rattle.std.proofs.lemmas.Bool.{both_ways, cases_Bool, cases_eq, and_parts, and_cases, ltb-true, ltb-false, eqb-false}
 use Rattle.protocol.specs.Lists.{pick, upd, Begins}
 use Rattle.protocol.specs.Log.{entry, Log, term_before, last_term, renew, Covers, decisions}
 use Rattle.protocol.specs.History.{History, count, Majority, Committed, Front, Decided}
@@ -18,6 +18,8 @@ use Rattle.machine.specs.Machine.{Conf, Machine, Role, follower, candidate, lead
 use Rattle.machine.specs.Step.{owner, is_majority, broadcast, request_of, majority_index, maybe_commit, become_leader, as_candidate, poll, as_follower, enter, ticked, reminder, tick_election, tick_as, on_tick, prev_matches, handle_append, matched, handle_ack, handle_reject, handle_as, handle, handle_old, enter_higher, handle_higher, on_letter, propose_as, append_proposal, on_proposal, step}
 use Rattle.machine.specs.World.{World, whole, early, late, Item, power, input, next, run, initial, Reachable}
 use Rattle.machine.specs.Fits.{state_of}
+use Rattle.machine.proofs.Alone.{index_alone}
+use Rattle.machine.proofs.Decided.{none_begins}
 use Rattle.machine.proofs.Worlds.{still_up, up_before}
 use Rattle.machine.proofs.Theorems.{reachable_refines}
 use Rattle.machine.proofs.Steps.{decided_up}
@@ -52,12 +54,8 @@ module _ (n : ℕ) (g : History) (inv : Inv g) (el : Elections n g) (j : ℕ) (s
       subst (λ (ys : List ℕ). Begins ys (decisions s.log)) (sym (f.is ∙ e))
       (subst (λ (l : Log ℕ). Begins (decisions (take f.upto s.log)) (decisions l)) all (decisions_take s.log f.upto (f.upto + length s.log) (omega arith)))
 
-nothing_begins : (xs ys : List ℕ) → xs ≡ [] → Begins xs ys
-unfolding Begins
-nothing_begins xs ys e = (ys, ap (λ (zs : List ℕ). zs ++ ys) e)
-
 order_begins : (n : ℕ) (g : History) (inv : Inv g) (el : Elections n g) (s : State) → n ≡ 1 → Sound n g 0 s → (xs : List ℕ) → Decided n g xs → Begins xs (decisions s.log)
-order_begins n g inv el s one d xs (inl e) = nothing_begins xs (decisions s.log) e
+order_begins n g inv el s one d xs (inl e) = none_begins xs (decisions s.log) e
 order_begins n g inv el s one d xs (inr f) =
     let most : Majority 1 (λ j. ltb f.at (g.acked f.term j)) = subst (λ (k : ℕ). Majority k (λ j. ltb f.at (g.acked f.term j))) one f.done.most in
     acked_begins n g inv el 0 s d xs f (ltb-true f.at (g.acked f.term 0) (one_acked (λ j. ltb f.at (g.acked f.term j)) most))
@@ -98,21 +96,10 @@ push_ends t l v = last_some (l ++ entry t (some v) ∷ []) (length l) (push_leng
 
 -- whatever comes to it, since what it has, more than half of one have
 module _ (c : Conf) (one : c.size ≡ 1) where
-  most_alone : (f : ℕ → Bool) → f 0 ≡ true → is_majority c f ≡ true
-  unfolding is_majority count
-  most_alone f e =
-      let k : count f c.size ≡ 1 = ap (count f) one ∙ ap (λ (b : Bool). pick b 1 0) e in
-      lt-ltb c.size (2 * count f c.size) (omega (arith, one, k))
-
-  index_all : (a : ℕ → ℕ) (k : ℕ) → k ≤ a 0 → majority_index c a k ≡ k
-  unfolding majority_index
-  index_all a zero h = refl
-  index_all a (suc k) h = ap (λ (b : Bool). pick b (suc k) (majority_index c a k)) (most_alone (λ j. leb (suc k) (a j)) (le-leb (suc k) (a 0) h))
-
   commit_all : {A : Type 0} (t : ℕ) (l : Log A) (a : ℕ → ℕ) (k : ℕ) → length l ≤ a 0 → last_term l ≡ t → length l ≤ maybe_commit c t l a k
   unfolding maybe_commit last_term
   commit_all t l a k h e =
-      let x : majority_index c a (length l) ≡ length l = index_all a (length l) h in
+      let x : majority_index c a (length l) ≡ length l = index_alone c one a (length l) h in
       pick_both (λ y. length l ≤ y) (ltb k (majority_index c a (length l)) && eqb (term_before l (majority_index c a (length l))) t) (majority_index c a (length l)) k (λ _. omega (arith, x))
       (λ z. elim (and_cases (ltb k (majority_index c a (length l))) (eqb (term_before l (majority_index c a (length l))) t) z) [
         | inl y ↦ omega (arith, x, ltb-false k (majority_index c a (length l)) y)

@@ -1,5 +1,5 @@
 -- If more than half are up and in one term, its leader has all that was ever held for decided. Assumes nothing.
-use Rattle.std.proofs.Common.{◌≡◌, ℕ, ◌≤◌, Bool, true, ltb, List, [], ◌++◌, length, take, sym, ap, ◌∙◌, subst, inl, inr, arith}
+use Rattle.std.proofs.Common.{◌≡◌, ℕ, ◌≤◌, Bool, true, ltb, List, length, take, sym, ap, ◌∙◌, subst, inl, inr, arith}
 use Rattle.std.proofs.lemmas.List.{take_all}
 use Rattle.std.proofs.lemmas.Bool.{ltb-true}
 use Rattle.protocol.specs.Lists.{Begins}
@@ -17,14 +17,9 @@ use Rattle.machine.specs.Step.{is_majority}
 use Rattle.machine.specs.World.{World, Reachable}
 use Rattle.machine.specs.Fits.{LeaderFits, RoleFits, Refines}
 use Rattle.machine.proofs.Fits.{majority_true}
-use Rattle.machine.proofs.Decided.{take_begins}
+use Rattle.machine.proofs.Decided.{take_begins, none_begins}
 use Rattle.machine.proofs.Theorems.{reachable_refines}
 use Rattle.machine.proofs.Steps.{decided_up}
-
--- every list begins with the empty one
-none_begins : (xs ys : List ℕ) → xs ≡ [] → Begins xs ys
-unfolding Begins
-none_begins xs ys e = (ys, ap (λ (x : List ℕ). x ++ ys) e)
 
 -- in a cluster of the protocol: more than half are in term t now
 module _ (n : ℕ) (d : Cluster) (sf : Safe n d) (t : ℕ) (up : ℕ → Bool) (most : Majority n up) (there : (j : ℕ) → up j ≡ true → (d.now j).term ≡ t) where

@@ -109,7 +109,7 @@ unfolding enter
 enter_term c j m t o =
     pick_both (λ (y : Outcome ℕ). y.now.term ≡ t) _ _ _ (λ _. poll_term c j (as_follower m t) (λ i. eqb i j) (broadcast c j (λ _. request_of (as_follower m t)))) (λ _. refl)
 
-else_all : (P : Out ℕ → Type 0) (xs ys : List (Out ℕ)) → All P xs → All P ys → All P (or_else xs ys)
+pub else_all : (P : Out ℕ → Type 0) (xs ys : List (Out ℕ)) → All P xs → All P ys → All P (or_else xs ys)
 else_all P [] ys h k = k
 else_all P (x ∷ xs) ys h k = h
 

@@ -1,13 +1,13 @@
 -- A machine with mapped contents does the mapped thing. Assumes nothing.
 use Rattle.std.proofs.Common.{◌≡◌, ℕ, zero, suc, pred, ◌+◌, min, max, Bool, true, not, ◌&&◌, ◌||◌, eqb, ltb, leb, List, [], ◌∷◌, ◌++◌, map, length, take, drop, sym, refl, ap, ◌∙◌}
 use mathlib.Core.Option.{some}
-use Rattle.std.proofs.lemmas.List.{length-map, map-append}
+use Rattle.std.proofs.lemmas.List.{length-map, map-append, take-map, drop-map}
 use Rattle.protocol.specs.Lists.{pick, upd}
 use Rattle.protocol.specs.Log.{entry, Log, term_before, renew, merge, decisions}
 use Rattle.machine.specs.Machine.{Conf, Machine, machine, Role, follower, candidate, leader, Letter, append, request, vote, ack, reject, here, of_term, Out, out, Outcome, outcome, tick, receive, Input, event, proposal, decided}
 use Rattle.machine.specs.Step.{owner, is_majority, is_up_to_date, to_others, broadcast, request_of, append_at, majority_index, maybe_commit, leading, renewed, new_leader, become_leader, as_candidate, poll, as_follower, enter, ticked, reminder, tick_election, tick_as, on_tick, prev_matches, hint, handle_append, matched, next_after, handle_ack, next_below, handle_reject, handle_as, handle, handle_old, or_else, enter_higher, handle_higher, on_letter, extended, proposed, propose_as, append_proposal, on_proposal, step}
 use Rattle.machine.specs.Maps.{map_entry, map_log, map_machine, map_letter, map_out, map_outcome, map_input, StepNatural, DecidedNatural, StopNatural}
-use Rattle.machine.proofs.MapLogs.{map_pick, map_take, map_drop, log_length, term_before_map, last_term_map, renew_map, merge_map, decisions_map}
+use Rattle.machine.proofs.MapLogs.{map_pick, log_length, term_before_map, last_term_map, renew_map, merge_map, decisions_map}
 
 module _ {A B : Type 0} (f : A → B) where
   -- letters
@@ -35,7 +35,7 @@ module _ {A B : Type 0} (f : A → B) where
   append_map c m nx =
       let prev = term_before_map f m.log (pred nx) in
       let es : take c.batch (drop (pred nx) (map_log f m.log)) ≡ map_log f (take c.batch (drop (pred nx) m.log)) =
-      ap (take c.batch) (map_drop (map_entry f) (pred nx) m.log) ∙ map_take (map_entry f) c.batch (drop (pred nx) m.log) in
+      ap (take c.batch) (drop-map (map_entry f) (pred nx) m.log) ∙ take-map (map_entry f) c.batch (drop (pred nx) m.log) in
       λ i. append m.term (pred nx) (prev i) m.commit (es i)
 
   requests_map : (c : Conf) (id : ℕ) (m : Machine A) → broadcast c id (λ _. request_of (map_machine f m)) ≡ map (map_out f) (broadcast c id (λ _. request_of m))
@@ -274,7 +274,7 @@ module _ {A B : Type 0} (f : A → B) where
 
   pub decided_map : (m : Machine A) → decided (map_machine f m) ≡ map f (decided m)
   unfolding decided
-  decided_map m = ap decisions (map_take (map_entry f) m.commit m.log) ∙ decisions_map f (take m.commit m.log)
+  decided_map m = ap decisions (take-map (map_entry f) m.commit m.log) ∙ decisions_map f (take m.commit m.log)
 
 pub step_natural : (A B : Type 0) → StepNatural A B
 step_natural A B f c id m i = step_map f c id m i

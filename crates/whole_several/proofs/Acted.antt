@@ -8,6 +8,7 @@ use Rattle.raft.specs.Outbox.{Mail as DueMail, mail_due}
 use Rattle.protocol.specs.Lists.{upd, In, All, Begins}
 use Rattle.protocol.specs.Log.{Log, term_at}
 use Rattle.protocol.proofs.Updates.{upd_same, upd_other}
+use Rattle.protocol.proofs.Lists.{begins_length}
 use Rattle.machine.specs.Machine.{Machine, Out, Outcome, Input, Persistent, persist, decided}
 use Rattle.machine.specs.Step.{step}
 use Rattle.machine.specs.Maps.{map_log, map_machine, map_outcome}
@@ -25,7 +26,7 @@ use Rattle.whole_several.proofs.Acts.{Fit, safe, safe_still, safe_settled, settl
 use Rattle.whole_several.proofs.Moved.{Moved, Became}
 use Rattle.whole_several.proofs.Joined.{Agrees, Going, Rests, Safe, Carried, Boxes}
 use Rattle.whole_several.proofs.Sent.{MailFits, as_wire, agrees_self, in_left, in_right, carried_all, boxes_all}
-use Rattle.whole_several.proofs.Made.{made, made_settle, going_fit, going_decided, safe_going, Fine, made_fine, begins_long}
+use Rattle.whole_several.proofs.Made.{made, made_settle, going_fit, going_decided, safe_going, Fine, made_fine}
 use Rattle.whole_several.proofs.Views.{decided_is}
 
 -- the terms of a log do not depend on what its entries hold
@@ -109,7 +110,7 @@ module _
   ordered = step_decided (conf n) w h e reach up possible (whole true) (λ q. false≢true (ap is_early q))
 
   order_up : length w.order ≤ length o
-  order_up = begins_long w.order o (order_grows (conf n) w (input h e (whole true)) reach (up, possible, tt))
+  order_up = begins_length w.order o (order_grows (conf n) w (input h e (whole true)) reach (up, possible, tt))
 
   abbrev stable_then : Bool → List ℕ
   stable_then b = pick b (safe m₁ fit.long) s

@@ -11,6 +11,7 @@ use Rattle.raft.specs.Header.{loaded}
 use Rattle.raft.specs.Proposal.{taken, propose_as, proposed}
 use Rattle.protocol.specs.Log.{entry, decisions}
 use Rattle.protocol.proofs.Decisions.{decisions_none, decisions_some, decisions-++}
+use Rattle.protocol.proofs.Lists.{begins_at}
 use Rattle.machine.specs.Machine.{Machine as Model, Outcome, proposal, decided}
 use Rattle.machine.specs.Maps.{map_machine}
 use Rattle.machine.specs.World.{World as Theory, initial}
@@ -24,7 +25,6 @@ use Rattle.together_several.specs.Entry.{own}
 use Rattle.whole_several.proofs.Joined.{Joined}
 use Rattle.whole_several.proofs.Moved.{Became, became_now}
 use Rattle.whole.proofs.Orders.{nth_last}
-use Rattle.whole_several.proofs.Made.{begins_at}
 use Rattle.whole_several.proofs.Sent.{agrees_self}
 use Rattle.whole_several.proofs.Things.{enough, full_why, taken_became, taken_over}
 use Rattle.whole_several.proofs.Lone.{is_leader, Leads}
@@ -154,7 +154,7 @@ module _ (ps : List (List ℕ)) (fs : List Flown) (k : ℕ) (x : Machine) (ds : 
         let more : many < length (decided (then.memory 0)) = omega (arith, ap (λ (vs : List ℕ). length vs) decided_then, length_push values_now w.proposals) in
         let ordered = decided_up (conf 1) then 0 (runs_trans (conf 1) initial w then z.joined.reach became.moved.path) became.moved.this_up in
         let there : get_or then.order many 0 ≡ length ps =
-        sym (begins_at (decided (then.memory 0)) then.order many ordered more)
+        sym (begins_at 0 (decided (then.memory 0)) then.order many more ordered)
         ∙ (ap (λ (vs : List ℕ). get_or vs many 0) decided_then ∙ (get_or_push values_now w.proposals 0 many refl ∙ sym z.joined.proposals)) in
         ap (λ (i : ℕ). nth_value (ps ++ v ∷ []) (get_or then.order i 0)) at ∙ (ap (nth_value (ps ++ v ∷ [])) there ∙ nth_last ps v)
 
