@@ -103,10 +103,10 @@ pub record AloneLeads {A : Type 0} (m d : Machine A) : Type 0 where
   pub log : d.log ≡ renew (suc m.term) m.log
   pub commit : d.commit ≡ length (renew (suc m.term) m.log)
 
-renew_ends : {A : Type 0} (t : ℕ) (l : Log A) → last_term (renew t l) ≡ t
+pub renew_ends : {A : Type 0} (t : ℕ) (l : Log A) → last_term (renew t l) ≡ t
 renew_ends t l = last_some (renew t l) _ (renew_length t l) ∙ term_same _ _ (renew_last t l)
 
-push_ends : {A : Type 0} (t : ℕ) (l : Log A) (v : A) → last_term (l ++ entry t (some v) ∷ []) ≡ t
+pub push_ends : {A : Type 0} (t : ℕ) (l : Log A) (v : A) → last_term (l ++ entry t (some v) ∷ []) ≡ t
 push_ends t l v = last_some (l ++ entry t (some v) ∷ []) (length l) (push_length l (entry t (some v))) ∙ term_same _ _ (push_last l (entry t (some v)) (length l) refl)
 
 -- a proposal is refused by one that does not lead, and when the log is full: this is so in any cluster

@@ -10,7 +10,7 @@ use Rattle.protocol.specs.Invariant.{Inv, Elections}
 use Rattle.protocol.specs.State.{State, Sound}
 use Rattle.protocol.proofs.Lists.{begins_length}
 use Rattle.protocol.proofs.Updates.{pick_both, upd_all, upd_same}
-use Rattle.protocol.proofs.Logs.{term_same, push_length, push_last, last_some, renew_length, renew_last, covers_self, covers_content}
+use Rattle.protocol.proofs.Logs.{covers_self, covers_content}
 use Rattle.protocol.proofs.Decisions.{decisions_take, decisions_same}
 use Rattle.protocol.proofs.States.{acked_front}
 use Rattle.protocol.proofs.Complete.{complete}
@@ -18,12 +18,11 @@ use Rattle.machine.specs.Machine.{Conf, Machine, Role, follower, candidate, lead
 use Rattle.machine.specs.Step.{owner, is_majority, broadcast, request_of, majority_index, maybe_commit, become_leader, as_candidate, poll, as_follower, enter, ticked, reminder, tick_election, tick_as, on_tick, prev_matches, handle_append, matched, handle_ack, handle_reject, handle_as, handle, handle_old, enter_higher, handle_higher, on_letter, propose_as, append_proposal, on_proposal, step}
 use Rattle.machine.specs.World.{World, whole, early, late, Item, power, input, next, run, initial, Reachable}
 use Rattle.machine.specs.Fits.{state_of}
-use Rattle.machine.proofs.Alone.{index_alone}
+use Rattle.machine.proofs.Alone.{index_alone, renew_ends, push_ends}
 use Rattle.machine.proofs.Decided.{none_begins}
 use Rattle.machine.proofs.Worlds.{still_up, up_before}
 use Rattle.machine.proofs.Theorems.{reachable_refines}
-use Rattle.machine.proofs.Steps.{decided_up}
-use Rattle.machine.proofs.Sames.{commit_long}
+use Rattle.machine.proofs.Steps.{decided_up, commit_up}
 use Rattle.machine.proofs.Safes.{stable_same}
 
 -- WHAT WAS COMMITTED, one machine alone acknowledged, so its log covers it
@@ -87,12 +86,6 @@ commit_stays c t l a k =
     pick_both (λ x. k ≤ x) (ltb k (majority_index c a (length l)) && eqb (term_before l (majority_index c a (length l))) t) (majority_index c a (length l)) k
     (λ e. omega (arith, ltb-true k (majority_index c a (length l)) (and_parts (ltb k (majority_index c a (length l))) (eqb (term_before l (majority_index c a (length l))) t) e).0))
     (λ _. omega arith)
-
-renew_ends : {A : Type 0} (t : ℕ) (l : Log A) → last_term (renew t l) ≡ t
-renew_ends t l = last_some (renew t l) _ (renew_length t l) ∙ term_same _ _ (renew_last t l)
-
-push_ends : {A : Type 0} (t : ℕ) (l : Log A) (v : A) → last_term (l ++ entry t (some v) ∷ []) ≡ t
-push_ends t l v = last_some (l ++ entry t (some v) ∷ []) (length l) (push_length l (entry t (some v))) ∙ term_same _ _ (push_last l (entry t (some v)) (length l) refl)
 
 -- whatever comes to it, since what it has, more than half of one have
 module _ (c : Conf) (one : c.size ≡ 1) where
@@ -233,7 +226,7 @@ module _ (c : Conf) (w : World) (one : c.size ≡ 1) (k : Reachable c w) (u : w.
   alone_commit =
       let h : length (w.memory 0).log ≤ (w.memory 0).commit =
       subst (λ (r : Role). FullAs r (length (w.memory 0).log) (w.memory 0).commit) e (reachable_full c one w k 0 refl u) in
-      omega (arith, h, commit_long c w 0 k u)
+      omega (arith, h, commit_up c w 0 k u)
 
   pub alone_decided : decided (w.memory 0) ≡ decisions (w.memory 0).log
   unfolding decided

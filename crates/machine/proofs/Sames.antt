@@ -11,7 +11,7 @@ use Rattle.protocol.proofs.Lists.{begins_length}
 use Rattle.protocol.proofs.Updates.{upd_same}
 use Rattle.protocol.proofs.Grows.{matching_grows}
 use Rattle.protocol.proofs.Runs.{moves_grow}
-use Rattle.machine.specs.Machine.{Conf, Machine, Input, restart, decided}
+use Rattle.machine.specs.Machine.{Conf, Machine, Input, decided}
 use Rattle.machine.specs.Step.{step}
 use Rattle.machine.specs.World.{World, whole, input, Possible, next, At, Reachable}
 use Rattle.machine.specs.Fits.{state_of, Refines}
@@ -50,10 +50,3 @@ same_log c w j e k u p n t =
 pub step_extends : (c : Conf) (w : World) (j : ℕ) (e : Input ℕ) → Reachable c w → w.up j ≡ true → Possible w j e →
     length (decided (w.memory j)) ≤ length (decided (step c j (w.memory j) e).now)
 step_extends c w j e k u p = begins_length (decided (w.memory j)) (decided (step c j (w.memory j) e).now) (events_extend c w j e k u p)
-
--- commit is within the log, in memory and in what is stable
-pub commit_long : (c : Conf) (w : World) (j : ℕ) → Reachable c w → w.up j ≡ true → (w.memory j).commit ≤ length (w.memory j).log
-commit_long c w j k u = ((reachable_refines c w k).refines.memory_fits j u).commit.long
-
-pub commit_long_stable : (c : Conf) (w : World) (j : ℕ) → Reachable c w → (restart (w.stable j)).commit ≤ length (restart (w.stable j)).log
-commit_long_stable c w j k = ((reachable_refines c w k).refines.stable_fits j).commit.long

@@ -60,9 +60,6 @@ commit_within c w j m k (inr h) =
 pub commit_up : (c : Conf) (w : World) (j : ℕ) → Reachable c w → w.up j ≡ true → (w.memory j).commit ≤ length (w.memory j).log
 commit_up c w j k u = commit_within c w j (w.memory j) k (inl (u, refl))
 
-pub commit_stable : (c : Conf) (w : World) (j : ℕ) → Reachable c w → (w.stable j).commit ≤ length (w.stable j).log
-commit_stable c w j k = commit_within c w j (restart (w.stable j)) k (inr refl)
-
 -- a machine's input may always be settled; then the machine stands in the next world
 module _ (c : Conf) (w : World) (j : ℕ) (e : Input ℕ) (k : Reachable c w) (u : w.up j ≡ true) (p : Possible w j e) where
   settled_reachable : Reachable c (next c w (input j e (whole true)))

@@ -154,7 +154,7 @@ pub record Flies (m : List ℕ) (j n : ℕ) (l : Mail) (ls : List Mail) : Type 0
   pub most : l.to < j + n
   pub left : mail_from (flown_to m l.to) j n ≡ ls
 
-no_way : {A : Type 0} → ◌≡◌ {A = ℕ} 0 1 → A
+pub no_way : {A : Type 0} → ◌≡◌ {A = ℕ} 0 1 → A
 no_way e = absurd (omega arith)
 
 none_not_some : {A B : Type 0} (x : A) (xs : List A) → [] ≡ x ∷ xs → B

@@ -22,6 +22,7 @@ use Rattle.join_several.specs.Stands.{conf, RoleStands, Stands}
 use Rattle.together.specs.House.{pick, or, every, any, those, same, propose, Applied, Far, got_to, far_after, nth_value, by_order}
 use Rattle.together.specs.Promise.{last_since, are_bytes, said, Ran, runs, Machine, machine_at, set_machine, World, world, Flown, says, to_whom, event_for, before, thing_ran, rounds, enough_up, all_got, most_applied, proposing, Takes, Calm}
 use Rattle.together_several.specs.Entry.{own}
+use Rattle.whole_several.proofs.Mails.{no_way}
 use Rattle.whole_several.proofs.Joined.{Joined}
 use Rattle.whole_several.proofs.Moved.{Became, became_now}
 use Rattle.whole.proofs.Orders.{nth_last}
@@ -215,9 +216,6 @@ module _ (ps : List (List ℕ)) (fs : List Flown) where
             (leader_got (k + 10) t.x₁ t.ds₁ t.w₁ o (most_applied (alone ps fs x o ds)) t.lives t.leads (omega (arith, most_of_one ps fs k x ds w z, t.order))),
         λ room. subst (λ (v : World). Takes own enough v) (sym t.is) (takes ps fs (k + 10) t.x₁ t.ds₁ t.w₁ t.lives (omega arith) t.leads room o),
       )
-
-no_way : {A : Type 0} → ◌≡◌ {A = ℕ} 0 1 → A
-no_way e = absurd (omega arith)
 
 calm_world : (k : ℕ) (ms : List Machine) (fs : List Flown) (ps : List (List ℕ)) (o : List ℕ) (ds : List Applied) (w : Theory) → k ≤ 4294967296 → Joined 1 k (world ms fs ps o ds) w →
     Calm own (world ms fs ps o ds)
