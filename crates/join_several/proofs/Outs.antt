@@ -377,12 +377,6 @@ module _ (n id : ℕ) (m : List ℕ) (x : Machine (List ℕ)) (s : Stands n id m
   pub made_here : (j : ℕ) → letter_of m TellTerm j ≡ here x.term
   made_here j = ap here s.term
 
-  pub made_grant : (j : ℕ) → letter_of m Grant j ≡ vote x.term true
-  made_grant j = ap (λ (t : ℕ). vote t true) s.term
-
-  pub made_deny : (j : ℕ) → letter_of m Deny j ≡ vote x.term false
-  made_deny j = ap (λ (t : ℕ). vote t false) s.term
-
   pub made_append : (a b : ℕ → ℕ) → x.role ≡ leader a b → (j : ℕ) → j < n → letter_of m Append j ≡ append_at (conf n) x (b j)
   made_append a b is j l =
       let r = leads_stands n m (loaded m).role x a b is s.role in

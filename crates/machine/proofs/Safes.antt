@@ -1,15 +1,15 @@
--- What is stable between events, and that no tick or proposal takes a value out of the log. Assumes nothing.
+-- What is stable between events, and that no tick takes a value out of the log. Assumes nothing.
 use Rattle.std.proofs.Common.{◌≡◌, ℕ, suc, ◌+◌, ◌<◌, ◌≤◌, Bool, true, ◌&&◌, eqb, ltb, List, [], ◌∷◌, ◌++◌, length, take, drop, sym, refl, ap, ◌∙◌, inl, inr, arith}
-use mathlib.Core.Option.{none, some}
-use Rattle.std.proofs.lemmas.List.{append-nil, length-append, take-append-drop, take_all, drop_more, drop_all}
+use mathlib.Core.Option.{none}
+use Rattle.std.proofs.lemmas.List.{append-nil, take-append-drop, take_all, drop_more, drop_all}
 use Rattle.std.proofs.lemmas.Bool.{cases_lt}
 use Rattle.protocol.specs.Log.{entry, Log, entry_at, content_at, renew_index, renew, decisions}
 use Rattle.protocol.specs.State.{State}
 use Rattle.protocol.proofs.Updates.{pick_both}
 use Rattle.protocol.proofs.Logs.{renew_index_is}
 use Rattle.protocol.proofs.Decisions.{decisions_none, decisions_empty, decisions-++}
-use Rattle.machine.specs.Machine.{Conf, Machine, Role, follower, candidate, leader, here, Out, Outcome, outcome, restart, decided}
-use Rattle.machine.specs.Step.{owner, is_majority, broadcast, request_of, become_leader, as_candidate, poll, as_follower, enter, ticked, reminder, tick_election, tick_as, on_tick, propose_as, append_proposal, on_proposal}
+use Rattle.machine.specs.Machine.{Conf, Machine, Role, follower, candidate, leader, here, Out, Outcome, outcome, restart}
+use Rattle.machine.specs.Step.{owner, is_majority, broadcast, request_of, become_leader, as_candidate, poll, as_follower, enter, ticked, reminder, tick_election, tick_as, on_tick}
 use Rattle.machine.specs.World.{World, Reachable}
 use Rattle.machine.specs.Fits.{state_of}
 use Rattle.machine.proofs.Theorems.{reachable_refines}
@@ -22,9 +22,6 @@ stable_state c w j k u =
 
 pub stable_same : (c : Conf) (w : World) (j : ℕ) → Reachable c w → w.up j ≡ true → (w.stable j).log ≡ (w.memory j).log
 stable_same c w j k u = ap (λ (z : State). z.log) (stable_state c w j k u)
-
-pub stable_term : (c : Conf) (w : World) (j : ℕ) → Reachable c w → w.up j ≡ true → (w.stable j).term ≡ (w.memory j).term
-stable_term c w j k u = ap (λ (z : State). z.term) (stable_state c w j k u)
 
 -- a log whose last entry is empty has the values of the rest
 rest_values : {A : Type 0} (k : ℕ) (l : Log A) → k < length l → length l ≤ suc k → content_at l k ≡ none → decisions (drop k l) ≡ []
@@ -89,31 +86,3 @@ tick_as_same c id m (leader a b) = refl
 pub tick_same : {A : Type 0} (c : Conf) (id : ℕ) (m : Machine A) → decisions (on_tick c id m).now.log ≡ decisions m.log
 unfolding on_tick
 tick_same c id m = tick_as_same c id m m.role
-
-pub tick_values : {A : Type 0} (c : Conf) (id : ℕ) (m : Machine A) → length (decisions m.log) ≤ length (decisions (on_tick c id m).now.log)
-tick_values c id m = omega (arith, ap length (tick_same c id m))
-
--- and a proposal keeps them too, with at most one behind them
-abbrev MoreValues : {A : Type 0} → Log A → Outcome A → Type 0
-MoreValues l d = length (decisions l) ≤ length (decisions d.now.log)
-
-push_values : {A : Type 0} (l k : Log A) → length (decisions l) ≤ length (decisions (l ++ k))
-push_values l k = omega (arith, ap length (decisions-++ l k), length-append (decisions l) (decisions k))
-
-propose_values : {A : Type 0} (c : Conf) (id : ℕ) (m : Machine A) (v : A) (r : Role) → MoreValues m.log (propose_as c id m v r)
-propose_values c id m v follower = omega arith
-propose_values c id m v (candidate w) = omega arith
-propose_values c id m v (leader a b) = push_values m.log (entry m.term (some v) ∷ [])
-
-pub proposal_values : {A : Type 0} (c : Conf) (id : ℕ) (m : Machine A) (v : A) → length (decisions m.log) ≤ length (decisions (on_proposal c id m v).now.log)
-unfolding on_proposal append_proposal
-proposal_values c id m v =
-    pick_both (MoreValues m.log) (ltb (length (decisions m.log)) c.room) (append_proposal c id m v) (outcome m []) (λ _. propose_values c id m v m.role) (λ _. omega arith)
-
--- a machine holds no more for decided than its log has
-pub decided_values : {A : Type 0} (m : Machine A) → length (decided m) ≤ length (decisions m.log)
-unfolding decided
-decided_values {A} m =
-    let all : length (decisions (take m.commit m.log ++ drop m.commit m.log)) ≡ length (decisions m.log) =
-    ap (λ (l : Log A). length (decisions l)) (take-append-drop m.commit m.log) in
-    omega (arith, all, push_values (take m.commit m.log) (drop m.commit m.log))
