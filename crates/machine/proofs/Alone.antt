@@ -1,5 +1,5 @@
 -- A machine alone: it is all of the majority, so what it has is committed at once, and it sends nothing. Assumes nothing.
-use Rattle.std.proofs.Common.{◌≡◌, ℕ, zero, suc, ◌+◌, ◌*◌, ◌<◌, ◌≤◌, Bool, true, false, ◌&&◌, eqb, ltb, leb, List, [], ◌∷◌, ◌++◌, length, sym, refl, ap, ◌∙◌, subst, inl, inr, arith}
+use Rattle.std.proofs.Common.{◌≡◌, ℕ, zero, suc, ◌+◌, ◌*◌, ◌<◌, ◌≤◌, Bool, true, false, ◌&&◌, eqb, ltb, leb, List, [], ◌∷◌, ◌++◌, length, refl, ap, ◌∙◌, inl, inr, arith}
 use mathlib.Core.Option.{some}
 use Rattle.std.proofs.lemmas.Bool.{and_from, and_cases, lt-ltb, le-ltb, ltb-false, le-leb, eq-eqb, eqb-false}
 use Rattle.protocol.specs.Lists.{pick, upd}
@@ -76,10 +76,6 @@ tick_kept c id m follower e = election_kept c id m e
 tick_kept c id m (candidate v) e = election_kept c id m e
 tick_kept c id m (leader a b) e = refl
 
-pub alone_tick_kept : {A : Type 0} (c : Conf) (id : ℕ) (m : Machine A) → m.term ≡ (on_tick c id m).now.term → m.commit ≡ (on_tick c id m).now.commit
-unfolding on_tick
-alone_tick_kept c id m e = tick_kept c id m m.role e
-
 -- the log that a machine leads its next term with, when it is alone, and the machine then
 abbrev pub own_log : {A : Type 0} → Machine A → Log A
 own_log m = renew (suc m.term) m.log
@@ -94,37 +90,11 @@ own_extended m v = m.log ++ entry m.term (some v) ∷ []
 abbrev pub own_proposed : {A : Type 0} → Machine A → A → (ℕ → ℕ) → (ℕ → ℕ) → Machine A
 own_proposed m v a b = machine m.term (leader (upd a 0 (length (own_extended m v))) b) m.heard m.elapsed (own_extended m v) (length (own_extended m v))
 
--- d leads the term after m's, and holds all of its log for committed
-pub record AloneLeads {A : Type 0} (m d : Machine A) : Type 0 where
-  pub acked : ℕ → ℕ
-  pub nexts : ℕ → ℕ
-  pub role : d.role ≡ leader acked nexts
-  pub term : d.term ≡ suc m.term
-  pub log : d.log ≡ renew (suc m.term) m.log
-  pub commit : d.commit ≡ length (renew (suc m.term) m.log)
-
 pub renew_ends : {A : Type 0} (t : ℕ) (l : Log A) → last_term (renew t l) ≡ t
 renew_ends t l = last_some (renew t l) _ (renew_length t l) ∙ term_same _ _ (renew_last t l)
 
 pub push_ends : {A : Type 0} (t : ℕ) (l : Log A) (v : A) → last_term (l ++ entry t (some v) ∷ []) ≡ t
 push_ends t l v = last_some (l ++ entry t (some v) ∷ []) (length l) (push_length l (entry t (some v))) ∙ term_same _ _ (push_last l (entry t (some v)) (length l) refl)
-
--- a proposal is refused by one that does not lead, and when the log is full: this is so in any cluster
-refuse_as : {A : Type 0} (c : Conf) (id : ℕ) (m : Machine A) (v : A) (r : Role) → ((a b : ℕ → ℕ) → r ≡ leader a b → ⊥) → propose_as c id m v r ≡ outcome m []
-refuse_as c id m v follower h = refl
-refuse_as c id m v (candidate w) h = refl
-refuse_as c id m v (leader a b) h = absurd (h a b refl)
-
-pub other_refuses : {A : Type 0} (c : Conf) (id : ℕ) (m : Machine A) (v : A) → ((a b : ℕ → ℕ) → m.role ≡ leader a b → ⊥) → on_proposal c id m v ≡ outcome m []
-unfolding on_proposal append_proposal
-other_refuses {A} c id m v h =
-    pick_both (λ (d : Outcome A). d ≡ outcome m []) (ltb (length (decisions m.log)) c.room) (append_proposal c id m v) (outcome m [])
-    (λ _. refuse_as c id m v m.role h) (λ _. refl)
-
-pub full_refuses : {A : Type 0} (c : Conf) (id : ℕ) (m : Machine A) (v : A) → c.room ≤ length (decisions m.log) → on_proposal c id m v ≡ outcome m []
-unfolding on_proposal
-full_refuses c id m v h =
-    pick_false (ltb (length (decisions m.log)) c.room) (append_proposal c id m v) (outcome m []) (le-ltb (length (decisions m.log)) c.room h)
 
 -- who does not lead waits or stands
 other_tick : {A : Type 0} (c : Conf) (m : Machine A) (r : Role) → ((a b : ℕ → ℕ) → r ≡ leader a b → ⊥) → tick_as c 0 m r ≡ tick_election c 0 m
@@ -187,11 +157,6 @@ module _ (c : Conf) (one : c.size ≡ 1) (ten : c.wait ≡ 10) where
       on_tick c 0 m ≡ outcome (own_leader m) []
   unfolding on_tick
   alone_elected m other h b = other_tick c m m.role other ∙ lead_election m h b
-
-  pub alone_leads : {A : Type 0} (m : Machine A) → ((a b : ℕ → ℕ) → m.role ≡ leader a b → ⊥) → 10 ≤ suc m.elapsed → m.commit ≤ length m.log → AloneLeads m (on_tick c 0 m).now
-  alone_leads {A} m other h b =
-      subst (λ (d : Outcome A). AloneLeads m d.now) (sym (alone_elected m other h b))
-      (record { acked = upd (λ _. 0) 0 (length (own_log m)); nexts = λ _. length (own_log m); role = refl; term = refl; log = refl; commit = refl })
 
   -- whatever a tick does, nothing is sent
   election_silent : {A : Type 0} (m : Machine A) → (tick_election c 0 m).sent ≡ []

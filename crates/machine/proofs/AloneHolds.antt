@@ -8,7 +8,6 @@ use Rattle.protocol.specs.Log.{entry, Log, term_before, last_term, renew, Covers
 use Rattle.protocol.specs.History.{History, count, Majority, Committed, Front, Decided}
 use Rattle.protocol.specs.Invariant.{Inv, Elections}
 use Rattle.protocol.specs.State.{State, Sound}
-use Rattle.protocol.proofs.Lists.{begins_length}
 use Rattle.protocol.proofs.Updates.{pick_both, upd_all, upd_same}
 use Rattle.protocol.proofs.Logs.{covers_self, covers_content}
 use Rattle.protocol.proofs.Decisions.{decisions_take, decisions_same}
@@ -22,7 +21,7 @@ use Rattle.machine.proofs.Alone.{index_alone, renew_ends, push_ends}
 use Rattle.machine.proofs.Decided.{none_begins}
 use Rattle.machine.proofs.Worlds.{still_up, up_before}
 use Rattle.machine.proofs.Theorems.{reachable_refines}
-use Rattle.machine.proofs.Steps.{decided_up, commit_up}
+use Rattle.machine.proofs.Steps.{commit_up}
 use Rattle.machine.proofs.Safes.{stable_same}
 
 -- WHAT WAS COMMITTED, one machine alone acknowledged, so its log covers it
@@ -231,10 +230,3 @@ module _ (c : Conf) (w : World) (one : c.size ≡ 1) (k : Reachable c w) (u : w.
   pub alone_decided : decided (w.memory 0) ≡ decisions (w.memory 0).log
   unfolding decided
   alone_decided = ap decisions (take_all (w.memory 0).commit (w.memory 0).log (omega (arith, alone_commit)))
-
-  pub alone_has_all : Begins w.order (decided (w.memory 0))
-  alone_has_all = subst (λ (xs : List ℕ). Begins w.order xs) (sym alone_decided) (alone_order_up c w one k u)
-
-  pub alone_has_order : length w.order ≡ length (decided (w.memory 0))
-  alone_has_order =
-      omega (arith, begins_length w.order (decided (w.memory 0)) alone_has_all, begins_length (decided (w.memory 0)) w.order (decided_up c w 0 k u))

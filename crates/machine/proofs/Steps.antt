@@ -5,8 +5,7 @@ use Rattle.protocol.specs.Log.{decisions}
 use Rattle.protocol.proofs.Updates.{upd_same}
 use Rattle.machine.specs.Machine.{Conf, Machine, Input, restart, decided}
 use Rattle.machine.specs.Step.{step}
-use Rattle.machine.specs.World.{World, Fate, whole, early, late, Item, input, Possible, Allowed, proposals_after, next, run, AllAllowed, initial, At, RunsTo, Reachable}
-use Rattle.machine.proofs.Counts.{counts}
+use Rattle.machine.specs.World.{World, Fate, whole, early, late, Item, input, Possible, Allowed, next, run, AllAllowed, initial, At, RunsTo, Reachable}
 use Rattle.machine.proofs.Theorems.{reachable_refines, global_order, order_once, logs_stay_small}
 
 -- one item more
@@ -70,10 +69,6 @@ module _ (c : Conf) (w : World) (j : ℕ) (e : Input ℕ) (k : Reachable c w) (u
 
   pub step_small : (length (decisions (step c j (w.memory j) e).now.log) ≤ c.room) × (length (step c j (w.memory j) e).now.log ≤ 2 * c.room + 1)
   step_small = logs_stay_small c (next c w (input j e (whole true))) j (step c j (w.memory j) e).now settled_reachable settled_at
-
-  pub step_counts : (length (decisions (step c j (w.memory j) e).now.log) ≤ proposals_after w.proposals e)
-      × (length (step c j (w.memory j) e).now.log ≤ 2 * length (decisions (step c j (w.memory j) e).now.log) + 1)
-  step_counts = counts c (next c w (input j e (whole true))) j (step c j (w.memory j) e).now settled_reachable settled_at
 
   pub step_commit : (step c j (w.memory j) e).now.commit ≤ length (step c j (w.memory j) e).now.log
   step_commit = commit_within c (next c w (input j e (whole true))) j (step c j (w.memory j) e).now settled_reachable settled_at

@@ -3,7 +3,7 @@
 
 ghost use Rattle.std.specs.Prelude.{◌≡◌, ℕ, List};
 ghost use Rattle.machine.specs.Theorems.{InitialRefines, ItemsAreMoves, GlobalOrder, OrderOnce, Agree, SamePlaces, SameNumbers, Further};
-ghost use Rattle.machine.specs.Theorems.{OneLeader, OneVote, AcksHeld, CommitRises, TermsRise, EventsExtend, StableGrows, TermsLast, LogsStaySmall};
+ghost use Rattle.machine.specs.Theorems.{OneLeader, OneVote, AcksHeld, LeaderHasOrder, CommitRises, TermsRise, EventsExtend, StableGrows, TermsLast, LogsStaySmall};
 ghost use Rattle.machine.specs.Maps.{StepNatural, DecidedNatural, StopNatural};
 ghost use Rattle.machine.specs.Hints.{shorter, by_term, ShorterAnswers, ByTermAnswers};
 ghost use Rattle.machine.specs.Example.{ExampleRun};
@@ -24,11 +24,12 @@ pub fn decisions_have_one_order()
     ensures further { Further }
 {}
 
-/// In one term no two lead and a machine votes for one only; what a leader holds for acknowledged is there.
+/// In one term no two lead and a machine votes for one only; what a leader holds for acknowledged is there, and with a majority in its term it has all that was decided.
 pub fn terms_have_one_leader()
     ensures leader { OneLeader }
     ensures votes { OneVote }
     ensures acks { AcksHeld }
+    ensures order { LeaderHasOrder }
 {}
 
 /// No event takes anything back.
