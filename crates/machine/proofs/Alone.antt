@@ -1,5 +1,5 @@
 -- A machine alone: it is all of the majority, so what it has is committed at once, and it sends nothing. Assumes nothing.
-use Rattle.std.proofs.Common.{◌≡◌, ℕ, zero, suc, ◌+◌, ◌*◌, ◌<◌, ◌≤◌, Bool, true, false, ◌&&◌, eqb, ltb, leb, List, [], ◌∷◌, ◌++◌, length, refl, ap, ◌∙◌, inl, inr, arith}
+use Rattle.std.proofs.Common.{◌≡◌, ℕ, zero, suc, ◌*◌, ◌<◌, ◌≤◌, Bool, true, false, ◌&&◌, eqb, ltb, leb, List, [], ◌∷◌, ◌++◌, length, refl, ap, ◌∙◌, inl, inr, arith}
 use mathlib.Core.Option.{some}
 use Rattle.std.proofs.lemmas.Bool.{and_from, and_cases, lt-ltb, le-ltb, ltb-false, le-leb, eq-eqb, eqb-false}
 use Rattle.protocol.specs.Lists.{pick, upd}
@@ -8,7 +8,7 @@ use Rattle.protocol.specs.History.{count, owner as owner_of}
 use Rattle.protocol.proofs.Updates.{pick_both, upd_same}
 use Rattle.protocol.proofs.Logs.{term_same, push_length, push_last, last_some, renew_index_is, renew_length, renew_last}
 use Rattle.machine.specs.Machine.{Conf, Machine, machine, Role, follower, candidate, leader, Letter, here, Out, out, Outcome, outcome}
-use Rattle.machine.specs.Step.{owner, is_majority, to_others, broadcast, request_of, append_at, majority_index, maybe_commit, new_leader, become_leader, as_candidate, poll, as_follower, enter, ticked, reminder, tick_election, tick_as, on_tick, proposed, propose_as, append_proposal, on_proposal}
+use Rattle.machine.specs.Step.{owner, is_majority, to_others, broadcast, append_at, majority_index, maybe_commit, new_leader, become_leader, poll, as_follower, enter, ticked, reminder, tick_election, tick_as, on_tick, proposed, propose_as, append_proposal, on_proposal}
 
 pick_true : {A : Type 0} (b : Bool) (x y : A) → b ≡ true → pick b x y ≡ x
 pick_true b x y e = ap (λ (z : Bool). pick z x y) e
@@ -51,30 +51,6 @@ module _ (c : Conf) (one : c.size ≡ 1) where
 
   broadcast_alone : {A : Type 0} (f : ℕ → Letter A) → broadcast c 0 f ≡ []
   broadcast_alone f = ap (to_others 0 f) one ∙ to_nobody f
-
--- a tick that keeps the term keeps commit: this is so in any cluster
-poll_term : {A : Type 0} (c : Conf) (id : ℕ) (m : Machine A) (v : ℕ → Bool) (o : List (Out A)) → (poll c id m v o).now.term ≡ m.term
-unfolding poll become_leader
-poll_term {A} c id m v o =
-    pick_both (λ (d : Outcome A). d.now.term ≡ m.term) (is_majority c v && ltb (m.elapsed + 2) c.wait) (become_leader c id m) (outcome (as_candidate m v) o)
-    (λ _. refl) (λ _. refl)
-
-enter_term : {A : Type 0} (c : Conf) (id : ℕ) (m : Machine A) (t : ℕ) (o : List (Out A)) → (enter c id m t o).now.term ≡ t
-unfolding enter
-enter_term {A} c id m t o =
-    pick_both (λ (d : Outcome A). d.now.term ≡ t) (eqb (owner c t) id) (poll c id (as_follower m t) (λ j. eqb j id) (broadcast c id (λ _. request_of (as_follower m t))))
-    (outcome (as_follower m t) o) (λ _. poll_term c id (as_follower m t) (λ j. eqb j id) (broadcast c id (λ _. request_of (as_follower m t)))) (λ _. refl)
-
-election_kept : {A : Type 0} (c : Conf) (id : ℕ) (m : Machine A) → m.term ≡ (tick_election c id m).now.term → m.commit ≡ (tick_election c id m).now.commit
-election_kept {A} c id m =
-    pick_both (λ (d : Outcome A). m.term ≡ d.now.term → m.commit ≡ d.now.commit) (ltb (suc m.elapsed) c.wait) (outcome (ticked m) (reminder c id m m.role))
-    (enter c id m (suc m.term) (broadcast c id (λ _. here (suc m.term)))) (λ _ _. refl)
-    (λ _ e. absurd (omega (arith, e, enter_term c id m (suc m.term) (broadcast c id (λ _. here (suc m.term))))))
-
-tick_kept : {A : Type 0} (c : Conf) (id : ℕ) (m : Machine A) (r : Role) → m.term ≡ (tick_as c id m r).now.term → m.commit ≡ (tick_as c id m r).now.commit
-tick_kept c id m follower e = election_kept c id m e
-tick_kept c id m (candidate v) e = election_kept c id m e
-tick_kept c id m (leader a b) e = refl
 
 -- the log that a machine leads its next term with, when it is alone, and the machine then
 abbrev pub own_log : {A : Type 0} → Machine A → Log A

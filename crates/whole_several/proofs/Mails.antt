@@ -31,9 +31,6 @@ pub record Still (m m₁ : List ℕ) : Type 0 where
   pub rows : (i : ℕ) → 8 ≤ i → i < 29 → get_or m₁ i 0 ≡ get_or m i 0
   pub behind : (i : ℕ) → 36 ≤ i → i ≢ 66 → get_or m₁ i 0 ≡ get_or m i 0
 
-pub still : (m : List ℕ) → Still m m
-still m = record { long = refl; size = refl; id = refl; term = refl; role = refl; rows = λ i a b. refl; behind = λ i a b. refl }
-
 module _ (m m₁ : List ℕ) (s : Still m m₁) where
   pub still_entries : SameEntries m m₁
   still_entries = same_entries m m₁ (s.behind 64 (omega arith) (omega arith)) (λ i l. s.behind i (omega arith) (omega arith))
