@@ -21,7 +21,7 @@ use Rattle.protocol.specs.Lists.{pick, upd}
 use Rattle.protocol.specs.Log.{Log, term_before}
 use Rattle.protocol.proofs.Updates.{pick_both, upd_at, upd_same, upd_other}
 use Rattle.machine.specs.Machine.{Conf, Machine, machine, Role, follower, candidate, leader, Letter, out, Outcome, outcome}
-use Rattle.machine_several.specs.Step.{broadcast, append_at, majority_index, maybe_commit, leading, matched, next_after, handle_ack, next_below, handle_reject}
+use Rattle.machine.specs.Step.{broadcast, append_at, majority_index, maybe_commit, leading, matched, next_after, handle_ack, next_below, handle_reject}
 use Rattle.join_several.specs.Stands.{conf, lift_log, Leads, RoleStands, Stands}
 use Rattle.join_several.specs.Does.{says, keeps, Handles}
 use Rattle.join_several.proofs.Frames.{commit_alike, applied_alike, stands_said, stands_said_others}

@@ -1,5 +1,5 @@
 -- A letter that is due, and the numbers of an answer, leave the struct and what was applied.
-use Rattle.std.proofs.Common.{◌≡◌, ℕ, ◌<◌, ◌≤◌, ◌≢◌, List, length, get_or, set, ◌∙◌, arith}
+use Rattle.std.proofs.Common.{◌≡◌, ℕ, ◌<◌, ◌≤◌, ◌≢◌, List, get_or, set, ◌∙◌, arith}
 use Rattle.std.proofs.lemmas.List.{get_or-set_other}
 use Rattle.raft_log.specs.Entries.{applied_number}
 use Rattle.raft_log.proofs.LogLaws.{same_applied}
@@ -8,7 +8,7 @@ use Rattle.raft.specs.declared.say.Due.{Due}
 use Rattle.raft.specs.Header.{loaded, stored}
 use Rattle.raft.specs.Say.{said_to, answered}
 use Rattle.raft.proofs.HeaderLaws.{stored_other, loaded_alike}
-use Rattle.join_several.proofs.Frames.{due_row_before, due_row_behind, due_row_long}
+use Rattle.join_several.proofs.Frames.{due_row_before, due_row_behind}
 
 pub said_before : (m : List ℕ) (j : ℕ) (d : Due) (i : ℕ) → i < 29 → get_or (said_to m j d) i 0 ≡ get_or m i 0
 unfolding said_to
@@ -17,10 +17,6 @@ said_before m j d i l = due_row_before m _ i l
 pub said_behind : (m : List ℕ) (j : ℕ) (d : Due) (i : ℕ) → 36 ≤ i → get_or (said_to m j d) i 0 ≡ get_or m i 0
 unfolding said_to
 said_behind m j d i l = due_row_behind m _ i l
-
-pub length_said : (m : List ℕ) (j : ℕ) (d : Due) → length (said_to m j d) ≡ length m
-unfolding said_to
-length_said m j d = due_row_long m _
 
 pub said_loaded : (m : List ℕ) (j : ℕ) (d : Due) → loaded (said_to m j d) ≡ loaded m
 said_loaded m j d = loaded_alike m (said_to m j d) (λ i l. said_before m j d i (omega arith))

@@ -26,8 +26,8 @@ use Rattle.raft.proofs.HeaderLaws.{Held, loaded_held, loaded_stored, length_stor
 use Rattle.protocol.specs.Lists.{pick}
 use Rattle.protocol.specs.Log.{Log, merge, decisions}
 use Rattle.machine.specs.Machine.{Machine, machine, follower, ack, reject, out, Outcome, outcome}
-use Rattle.machine_several.specs.Step.{prev_matches, hint, handle_append}
-use Rattle.join_several.specs.Stands.{lift_log, Stands}
+use Rattle.machine.specs.Step.{prev_matches, hint, handle_append}
+use Rattle.join_several.specs.Stands.{conf, lift_log, Stands}
 use Rattle.join_several.specs.Does.{Room, says, Handles}
 use Rattle.join_several.proofs.Frames.{stands_stored, stands_answered}
 use Rattle.join_several.proofs.Lifts.{lift_length, lift_has_term, lift_merge, lift_hint, lift_decisions}
@@ -100,7 +100,7 @@ module _ (n id : ℕ) (m : List ℕ) (x : Machine (List ℕ)) (f p q k : ℕ) (e
   merge_same = lift_merge (log_of m) p es ∙ ap (λ (l : Log (List ℕ)). merge l p (lift_log es)) s.log
 
   abbrev refusing : Outcome (List ℕ)
-  refusing = outcome (machine x.term follower true 0 x.log x.commit) (out f (reject x.term p (hint x.log p q)) ∷ [])
+  refusing = outcome (machine x.term follower true 0 x.log x.commit) (out f (reject x.term p (hint (conf n) x.log p q)) ∷ [])
 
   abbrev refused_memory : List ℕ
   refused_memory = stored m (heard_from (loaded m) false)
@@ -113,14 +113,14 @@ module _ (n id : ℕ) (m : List ℕ) (x : Machine (List ℕ)) (f p q k : ℕ) (e
       let head : loaded (answered refused_memory f Reject p (row_hint (log_of m) p q)) ≡ heard_from (loaded m) false =
       answered_loaded refused_memory f Reject p (row_hint (log_of m) p q) ∙ is in
       let t : (loaded refused_memory).term.0 ≡ x.term = ap (λ (y : Header). y.term.0) is ∙ s.term in
-      let h : row_hint (log_of m) p q ≡ hint x.log p q = lift_hint (log_of m) p q ∙ ap (λ (l : Log (List ℕ)). hint l p q) s.log in
+      let h : row_hint (log_of m) p q ≡ hint (conf n) x.log p q = lift_hint n (log_of m) p q ∙ ap (λ (l : Log (List ℕ)). hint (conf n) l p q) s.log in
       let now : Machine (List ℕ) = refusing.now in
       let stands : Stands n id refused_memory now =
       stands_stored n id m (heard_from (loaded m) false) now few s.tidy (heard_held m false) s.size s.self s.term s.log s.commit
       (record { role = refl; elapsed = refl; heard = refl }) in
       record {
         stands = stands_answered refused_memory f Reject p (row_hint (log_of m) p q) n id now few stands;
-        told = says (out f (reject x.term p (hint x.log p q))) [] refl
+        told = says (out f (reject x.term p (hint (conf n) x.log p q))) [] refl
             (posted_reject refused_memory long f p (row_hint (log_of m) p q) (omega arith) ∙ (λ i. out f (reject (t i) p (h i)) ∷ []));
         still_unsettled = λ u. ap (λ (y : Header). y.unsettled) head ∙ or_left (loaded m).unsettled false u;
         safe = λ u. record { term = refl; log = refl };
@@ -186,19 +186,19 @@ module _ (n id : ℕ) (m : List ℕ) (x : Machine (List ℕ)) (f p q k : ℕ) (e
 
   -- EITHER
   pub append_handled :
-      Valid es → Agreeing (log_of m) p es → Room (handle_append f x p q k (lift_log es)).now →
-      (handle_append f x p q k (lift_log es)).now.commit ≤ length (handle_append f x p q k (lift_log es)).now.log →
-      Handles n id m (append_taken m (loaded m) f p q k es) x (handle_append f x p q k (lift_log es))
+      Valid es → Agreeing (log_of m) p es → Room (handle_append (conf n) f x p q k (lift_log es)).now →
+      (handle_append (conf n) f x p q k (lift_log es)).now.commit ≤ length (handle_append (conf n) f x p q k (lift_log es)).now.log →
+      Handles n id m (append_taken m (loaded m) f p q k es) x (handle_append (conf n) f x p q k (lift_log es))
   unfolding append_taken handle_append accepts
   append_handled valid agree room reach =
       elim (cases_Bool (prev_matches x.log p q)) [
         | inl e ↦
-            let d : handle_append f x p q k (lift_log es) ≡ taking = ap (λ (b : Bool). pick b taking refusing) e in
+            let d : handle_append (conf n) f x p q k (lift_log es) ≡ taking = ap (λ (b : Bool). pick b taking refusing) e in
             let prev : has_term (log_of m) p q ≡ true = prev_same ∙ e in
             let r : Room taking.now = subst (λ (o : Outcome (List ℕ)). Room o.now) d room in
             let c : taking.now.commit ≤ length taking.now.log = subst (λ (o : Outcome (List ℕ)). o.now.commit ≤ length o.now.log) d reach in
             handles_by n id m _ _ x _ _ (cond-true (accepts m p q es) _ _ (accepts_it valid agree prev r c)) d (taken valid agree prev r c)
         | inr e ↦
-            let d : handle_append f x p q k (lift_log es) ≡ refusing = ap (λ (b : Bool). pick b taking refusing) e in
+            let d : handle_append (conf n) f x p q k (lift_log es) ≡ refusing = ap (λ (b : Bool). pick b taking refusing) e in
             handles_by n id m _ _ x _ _ (cond-false (accepts m p q es) _ _ (and_left (has_term (log_of m) p q) (merges m p es) (prev_same ∙ e))) d refused
       ]

@@ -7,7 +7,7 @@ use Rattle.raft_log.specs.Layout.{memory_words}
 use Rattle.raft_log.specs.View.{log_of, Tidy}
 use Rattle.raft_log.specs.Entries.{last_index, commit_index, applied_number, term_at, commit_rises, commit_raised}
 use Rattle.raft_log.proofs.ViewLaws.{length_log, log_term}
-use Rattle.raft_log.proofs.LogLaws.{same_applied, length_commit_raised, commit_raised_other, commit_raised_up}
+use Rattle.raft_log.proofs.LogLaws.{same_applied, commit_raised_other, commit_raised_up}
 use Rattle.raft_log.proofs.LogChanges.{commit_raised_log, commit_raised_tidy}
 use Rattle.tracker.specs.Majority.{reached}
 use Rattle.raft.specs.Rows.{most_of, majority_below}
@@ -15,7 +15,7 @@ use Rattle.raft.specs.Commit.{quorum_index, maybe_committed}
 use Rattle.protocol.specs.Lists.{pick}
 use Rattle.protocol.specs.Log.{Log, term_before}
 use Rattle.protocol.specs.History.{count}
-use Rattle.machine_several.specs.Step.{is_majority, majority_index, maybe_commit}
+use Rattle.machine.specs.Step.{is_majority, majority_index, maybe_commit}
 use Rattle.join_several.specs.Stands.{conf, lift_log}
 use Rattle.join_several.proofs.Lifts.{cond_pick, lift_length, lift_term}
 
@@ -65,12 +65,6 @@ majority_most ks (suc k) =
 
 -- WHAT IS DECIDED changes nothing but its own word
 module _ (m : List ℕ) (n t : ℕ) where
-  pub maybe_length : length (maybe_committed m n t) ≡ length m
-  unfolding maybe_committed
-  maybe_length =
-      cond_both (eqb (term_at m (quorum_index m n)) t) (commit_raised m (quorum_index m n)) m (λ (x : List ℕ). length x ≡ length m)
-      (λ _. length_commit_raised m (quorum_index m n)) (λ _. refl)
-
   pub maybe_other : (j : ℕ) → j ≢ 65 → get_or (maybe_committed m n t) j 0 ≡ get_or m j 0
   unfolding maybe_committed
   maybe_other j ne =

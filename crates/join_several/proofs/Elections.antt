@@ -19,7 +19,7 @@ use Rattle.raft.proofs.RowLaws.{length_row_put, row_put_other, row_put_same}
 use Rattle.protocol.specs.Lists.{pick}
 use Rattle.protocol.specs.History.{count, owner as owner_of}
 use Rattle.machine.specs.Machine.{Machine, Role, follower, candidate, leader, Letter, here, Out, out, Outcome, outcome}
-use Rattle.machine_several.specs.Step.{owner, is_majority, broadcast, request_of, as_candidate, as_follower, new_leader, become_leader, poll, enter, enter_higher}
+use Rattle.machine.specs.Step.{owner, is_majority, broadcast, request_of, as_candidate, as_follower, new_leader, become_leader, poll, enter, enter_higher}
 use Rattle.join_several.specs.Stands.{conf, lift_log, RoleStands, Stands}
 use Rattle.join_several.specs.Does.{posted, Room}
 use Rattle.join_several.proofs.Frames.{commit_alike, applied_alike, due_row_long, due_row_behind, stands_said_others, stands_said, stands_stored}

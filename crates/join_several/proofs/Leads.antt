@@ -26,7 +26,7 @@ use Rattle.protocol.specs.Log.{renew, renew_index}
 use Rattle.protocol.proofs.Logs.{renew_length}
 use Rattle.protocol.proofs.Updates.{upd_at, upd_other}
 use Rattle.machine.specs.Machine.{Machine, leader}
-use Rattle.machine_several.specs.Step.{broadcast, append_at, maybe_commit, leading, renewed, new_leader, become_leader}
+use Rattle.machine.specs.Step.{broadcast, append_at, maybe_commit, leading, renewed, new_leader, become_leader}
 use Rattle.join_several.specs.Stands.{conf, lift_log, Leads, RoleStands, Stands}
 use Rattle.join_several.specs.Does.{posted, Room}
 use Rattle.join_several.proofs.Frames.{commit_alike, applied_alike, due_row_long, due_row_before, due_row_behind, stands_stored, stands_said_others}

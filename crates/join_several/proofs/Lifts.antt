@@ -1,7 +1,7 @@
 -- What is read off a row of entries is the same in the log of the theory.
 use Rattle.std.proofs.Common.{◌≡◌, ℕ, zero, suc, pred, ◌-◌, min, Bool, true, false, cond, ◌&&◌, ◌||◌, eqb, ltb, leb, List, [], ◌∷◌, ◌++◌, length, get_or, take, drop, sym, refl, ap, ◌∙◌, inl, inr, arith}
 use mathlib.Core.Option.{Option, none, some}
-use Rattle.std.proofs.lemmas.List.{length-map, map-append}
+use Rattle.std.proofs.lemmas.List.{length-map, map-append, take-map, drop-map}
 use Rattle.std.proofs.lemmas.Bool.{eq-eqb, ne_eqb, cases_eq}
 use Rattle.raft_log.specs.Layout.{at_most}
 use Rattle.raft_log.specs.Block.{Entry as Row}
@@ -11,9 +11,9 @@ use Rattle.raft_log.specs.Accept.{hint as row_hint}
 use Rattle.raft_log.proofs.MergeLaws.{at_most_min}
 use Rattle.protocol.specs.Lists.{pick}
 use Rattle.protocol.specs.Log.{Entry, entry, Log, entry_at, term_at, content_at, term_before, last_term, is_none, renew_index, renew, has_entries, merge, with_content, decisions}
-use Rattle.machine_several.specs.Step.{is_up_to_date, prev_matches, index_by_term, hint}
-use Rattle.machine_several.proofs.MapLogs.{map_take, map_drop}
-use Rattle.join_several.specs.Stands.{lift_entry, lift_log}
+use Rattle.machine.specs.Hints.{index_by_term}
+use Rattle.machine.specs.Step.{is_up_to_date, prev_matches, hint}
+use Rattle.join_several.specs.Stands.{conf, lift_entry, lift_log}
 
 -- a test of the code is a choice of the theory
 pub cond_pick : {A : Type 0} (b : Bool) (x y : A) → cond b x y ≡ pick b x y
@@ -34,11 +34,11 @@ lift_length l = length-map l lift_entry
 
 pub lift_take : (k : ℕ) (l : List Row) → lift_log (take k l) ≡ take k (lift_log l)
 unfolding lift_log
-lift_take k l = sym (map_take lift_entry k l)
+lift_take k l = sym (take-map lift_entry k l)
 
 pub lift_drop : (k : ℕ) (l : List Row) → lift_log (drop k l) ≡ drop k (lift_log l)
 unfolding lift_log
-lift_drop k l = sym (map_drop lift_entry k l)
+lift_drop k l = sym (drop-map lift_entry k l)
 
 pub lift_append : (l r : List Row) → lift_log (l ++ r) ≡ lift_log l ++ lift_log r
 unfolding lift_log
@@ -100,7 +100,7 @@ lift_merge l p es =
     let has = lift_has_entries l p es in
     pick_lift lift_log (row_has l p es) l (take p l ++ es) ∙ (λ i. pick (has i) (lift_log l) (cut i))
 
-lift_by_term : (l : List Row) (t i : ℕ) → conflict_by_term l t i ≡ index_by_term (lift_log l) t i
+lift_by_term : (l : List Row) (t i : ℕ) → conflict_by_term l t i ≡ index_by_term (term_before (lift_log l)) t i
 unfolding conflict_by_term index_by_term
 lift_by_term l t zero = refl
 lift_by_term l t (suc i) =
@@ -112,9 +112,9 @@ pred_less : (p : ℕ) → p - 1 ≡ pred p
 pred_less zero = refl
 pred_less (suc p) = omega arith
 
-pub lift_hint : (l : List Row) (p q : ℕ) → row_hint l p q ≡ hint (lift_log l) p q
+pub lift_hint : (n : ℕ) (l : List Row) (p q : ℕ) → row_hint l p q ≡ hint (conf n) (lift_log l) p q
 unfolding row_hint
-lift_hint l p q =
+lift_hint n l p q =
     let e : at_most (p - 1) (length l) ≡ min (pred p) (length (lift_log l)) =
     at_most_min (p - 1) (length l) ∙ (ap (λ (x : ℕ). min x (length l)) (pred_less p) ∙ ap (min (pred p)) (sym (lift_length l))) in
     ap (conflict_by_term l q) e ∙ lift_by_term l q (min (pred p) (length (lift_log l)))

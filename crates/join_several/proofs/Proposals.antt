@@ -25,7 +25,7 @@ use Rattle.protocol.specs.Log.{entry, Log, decisions}
 use Rattle.protocol.proofs.Logs.{push_length}
 use Rattle.protocol.proofs.Updates.{upd_at, upd_other}
 use Rattle.machine.specs.Machine.{Machine, Outcome, outcome}
-use Rattle.machine_several.specs.Step.{broadcast, append_at, extended, proposed, propose_as, append_proposal, on_proposal}
+use Rattle.machine.specs.Step.{broadcast, append_at, extended, proposed, propose_as, append_proposal, on_proposal}
 use Rattle.join_several.specs.Stands.{conf, lift_log, Leads, RoleStands, Stands}
 use Rattle.join_several.specs.Does.{Does}
 use Rattle.join_several.proofs.Frames.{commit_alike, applied_alike, stands_said_others}

@@ -14,7 +14,7 @@ use Rattle.raft.specs.Outbox.{mail_due}
 use Rattle.raft.specs.Receive.{letter_term, append_as, vote_as, response_as, reject_as, handle_with, handled, old_taken, taken_by_term, another, received_from_another}
 use Rattle.protocol.specs.Lists.{pick}
 use Rattle.machine.specs.Machine.{Machine, Role, follower, candidate, leader, of_term, Out, Outcome, outcome}
-use Rattle.machine_several.specs.Step.{handle_as, handle, handle_old, or_else, enter_higher, on_letter}
+use Rattle.machine.specs.Step.{handle_as, handle, handle_old, or_else, enter_higher, on_letter}
 use Rattle.join_several.specs.Stands.{conf, Leads, RoleStands, Stands}
 use Rattle.join_several.specs.Does.{lift_letter, posted, Quiet, Room, Does, Told, says, keeps, Handles}
 use Rattle.join_several.proofs.Outs.{posted_quiet}

@@ -14,7 +14,7 @@ use Rattle.raft.specs.Election.{vote_due}
 use Rattle.raft.specs.Receive.{request_as, old_taken}
 use Rattle.protocol.specs.Log.{Log}
 use Rattle.machine.specs.Machine.{Machine, Role, follower, candidate, leader, Letter, request, vote, here, out, outcome}
-use Rattle.machine_several.specs.Step.{is_up_to_date, handle_as, handle_old}
+use Rattle.machine.specs.Step.{is_up_to_date, handle_as, handle_old}
 use Rattle.join_several.specs.Stands.{conf, RoleStands, Stands}
 use Rattle.join_several.specs.Does.{lift_letter, says, keeps, Handles}
 use Rattle.join_several.proofs.Frames.{stands_said}

@@ -13,7 +13,7 @@ use Rattle.raft.specs.Election.{owner as owner_at, with_role, term_entered, next
 use Rattle.raft.proofs.HeaderLaws.{Held, loaded_held, loaded_stored, length_stored, stored_other}
 use Rattle.protocol.specs.Lists.{pick}
 use Rattle.machine.specs.Machine.{Machine, Role, follower, candidate, leader, Letter, here, out, Outcome, outcome}
-use Rattle.machine_several.specs.Step.{owner, broadcast, request_of, append_at, enter, ticked, reminder, tick_election, tick_as, on_tick}
+use Rattle.machine.specs.Step.{owner, broadcast, request_of, append_at, enter, ticked, reminder, tick_election, tick_as, on_tick}
 use Rattle.join_several.specs.Stands.{conf, Follows, Stood, RoleStands, Stands}
 use Rattle.join_several.specs.Does.{posted, Quiet, Room, LastingSame, Does}
 use Rattle.join_several.proofs.Frames.{stands_said_others, stands_said, stands_stored}

@@ -15,7 +15,7 @@ use Rattle.raft.proofs.HeaderLaws.{loaded_alike, loaded_held}
 use Rattle.protocol.specs.Lists.{pick, upd}
 use Rattle.protocol.specs.History.{count}
 use Rattle.machine.specs.Machine.{Machine, Role, follower, candidate, leader, Letter, Out, out, Outcome, outcome}
-use Rattle.machine_several.specs.Step.{is_majority, to_others, append_at, new_leader, become_leader, as_candidate, poll}
+use Rattle.machine.specs.Step.{is_majority, to_others, append_at, new_leader, become_leader, as_candidate, poll}
 use Rattle.join_several.specs.Stands.{conf, lift_log, Stood, RoleStands, Stands}
 use Rattle.join_several.specs.Does.{posted, Room, Told, says, keeps, Handles}
 use Rattle.join_several.proofs.Frames.{commit_alike, applied_alike}

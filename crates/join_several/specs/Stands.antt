@@ -7,11 +7,12 @@ use Rattle.raft.specs.declared.header.Role.{Role as Kind}
 use Rattle.raft.specs.declared.header.Role.TheVariants.{Follower, Candidate, Leader}
 use Rattle.raft.specs.Header.{loaded}
 use Rattle.protocol.specs.Log.{Entry, entry, Log}
+use Rattle.machine.specs.Hints.{by_term}
 use Rattle.machine.specs.Machine.{Conf, follower, candidate, leader, Machine}
 
--- the theory's numbers, for n machines: ten ticks to a time-out, 15 entries to a letter, 4,096 values to a log
+-- the theory's numbers, for n machines: ten ticks to a time-out, 15 entries to a letter, 4,096 values to a log, hints by term
 abbrev pub conf : ℕ → Conf
-conf n = record { size = n; wait = 10; batch = 15; room = 4096 }
+conf n = record { size = n; wait = 10; batch = 15; room = 4096; hint = by_term }
 
 abbrev pub lift_entry : Row → Entry (List ℕ)
 lift_entry e = entry e.term e.content

@@ -1,5 +1,5 @@
 -- What machines hold for decided are first decisions of one order. Assumes nothing.
-use Rattle.std.proofs.Common.{◌≡◌, ℕ, ◌<◌, ◌≤◌, ltb, List, length, take, sym, subst, inl, inr, arith}
+use Rattle.std.proofs.Common.{◌≡◌, ℕ, ◌<◌, ◌≤◌, ltb, List, [], ◌++◌, length, take, sym, ap, subst, inl, inr, arith}
 use Rattle.std.proofs.lemmas.Bool.{ltb-true, ltb-false}
 use Rattle.protocol.specs.Lists.{Begins, Alike}
 use Rattle.protocol.specs.Log.{Log, content_at, decisions}
@@ -34,3 +34,8 @@ longer_begins xs ys (inr h) =
 pub take_begins : (k i : ℕ) (l p : Log ℕ) → k ≤ length l → i ≤ length p → k ≤ i → ((x : ℕ) → x < k → content_at l x ≡ content_at p x) → Begins (decisions (take k l)) (decisions (take i p))
 take_begins k i l p b b' h s =
     subst (λ (x : List ℕ). Begins x (decisions (take i p))) (sym (decisions_same k l p b (omega arith) (λ x c. sym (s x c)))) (decisions_take p k i h)
+
+-- every list begins with the empty one
+pub none_begins : (xs ys : List ℕ) → xs ≡ [] → Begins xs ys
+unfolding Begins
+none_begins xs ys e = (ys, ap (λ (x : List ℕ). x ++ ys) e)

@@ -1,5 +1,5 @@
 -- Letters and proposals: all that a machine does is made of permitted moves. Assumes nothing.
-use Rattle.std.proofs.Common.{◌≡◌, ℕ, suc, pred, ◌+◌, ◌<◌, ◌≤◌, min, max, Bool, true, false, eqb, ltb, List, [], ◌∷◌, ◌++◌, length, sym, refl, ap, ◌∙◌, subst, inl, inr, arith}
+use Rattle.std.proofs.Common.{◌≡◌, ℕ, suc, ◌+◌, ◌<◌, ◌≤◌, min, max, Bool, true, false, eqb, ltb, List, [], ◌∷◌, ◌++◌, length, sym, refl, ap, ◌∙◌, subst, inl, inr, arith}
 use mathlib.Core.Option.{some}
 use Rattle.std.proofs.lemmas.Bool.{and_parts, ltb-true, ltb-false, leb-true, eqb-true}
 use Rattle.protocol.specs.Lists.{upd, All}
@@ -15,7 +15,7 @@ use Rattle.protocol.proofs.Commits.{known_grows, known_commit, true_commit_grows
 use Rattle.protocol.proofs.Letters.{append_accept_ok, append_commit_known, ack_says}
 use Rattle.protocol.proofs.Rows.{Row, row_trans, row_safe, row_grows, SettledAt, settled_acked, accept_row, accept_at, propose_row, propose_at}
 use Rattle.machine.specs.Machine.{Conf, Machine, machine, Role, follower, candidate, leader, Letter, append, request, vote, ack, reject, here, of_term, Out, out, Outcome, outcome, tick, receive, event, proposal}
-use Rattle.machine.specs.Step.{broadcast, request_of, become_leader, poll, as_follower, enter, handle_append, handle_as, handle, handle_old, or_else, enter_higher, handle_higher, on_letter, extended, proposed, propose_as, append_proposal, on_proposal, step}
+use Rattle.machine.specs.Step.{broadcast, request_of, become_leader, poll, as_follower, enter, hint, handle_append, handle_as, handle, handle_old, or_else, enter_higher, handle_higher, on_letter, extended, proposed, propose_as, append_proposal, on_proposal, step}
 use Rattle.machine.specs.Fits.{TrueLetter, TrueOut, LeaderFits, RoleFits, state_of, Fits}
 use Rattle.machine.proofs.Small.{propose_small}
 use Rattle.machine.proofs.Fits.{true_letter_grows, fits_at}
@@ -53,14 +53,14 @@ module _ (c : Conf) (x : Cluster) (f j k : ℕ) (sf : Safe c.size x) (nums : x.h
           numbers = nums;
         }
 
-  append_ok : Result c x j k (handle_append f m p q kk es)
+  append_ok : Result c x j k (handle_append c f m p q kk es)
   unfolding handle_append
   append_ok =
       pick_both (Result c x j k) _ _ _
       (λ e.
       let r = and_parts _ _ e in
       takes (leb-true _ _ r.0) (eqb-true _ _ r.1))
-      (λ _. quiet c x j k (machine m.term follower true 0 m.log m.commit) (out f (reject m.term p (min (length m.log) (pred p))) ∷ []) nums
+      (λ _. quiet c x j k (machine m.term follower true 0 m.log m.commit) (out f (reject m.term p (hint c m.log p q)) ∷ []) nums
       (record { now = d.now; stable = d.stable; commit = d.commit; role = tt }) (tt, tt))
 
 -- a letter of the own term
@@ -109,7 +109,7 @@ unfolding enter
 enter_term c j m t o =
     pick_both (λ (y : Outcome ℕ). y.now.term ≡ t) _ _ _ (λ _. poll_term c j (as_follower m t) (λ i. eqb i j) (broadcast c j (λ _. request_of (as_follower m t)))) (λ _. refl)
 
-else_all : (P : Out ℕ → Type 0) (xs ys : List (Out ℕ)) → All P xs → All P ys → All P (or_else xs ys)
+pub else_all : (P : Out ℕ → Type 0) (xs ys : List (Out ℕ)) → All P xs → All P ys → All P (or_else xs ys)
 else_all P [] ys h k = k
 else_all P (x ∷ xs) ys h k = h
 

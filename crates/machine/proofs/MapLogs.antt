@@ -1,7 +1,7 @@
 -- Logs with mapped contents. Assumes nothing.
-use Rattle.std.proofs.Common.{◌≡◌, ℕ, zero, suc, Bool, true, false, ◌&&◌, eqb, ltb, List, [], ◌∷◌, ◌++◌, map, length, take, drop, sym, refl, ap, ◌∙◌}
+use Rattle.std.proofs.Common.{◌≡◌, ℕ, zero, suc, Bool, true, false, ◌&&◌, eqb, ltb, List, [], ◌∷◌, ◌++◌, map, length, take, sym, refl, ap, ◌∙◌}
 use mathlib.Core.Option.{Option, none, some}
-use Rattle.std.proofs.lemmas.List.{length-map, map-append}
+use Rattle.std.proofs.lemmas.List.{length-map, map-append, take-map}
 use Rattle.protocol.specs.Lists.{pick}
 use Rattle.protocol.specs.Log.{Entry, entry, Log, entry_at, term_at, content_at, term_before, last_term, is_none, renew_index, renew, has_entries, merge, with_content, decisions}
 use Rattle.machine.specs.Maps.{map_content, map_entry, map_log}
@@ -11,21 +11,11 @@ pub map_pick : {A B : Type 0} (h : A → B) (b : Bool) (x y : A) → h (pick b x
 map_pick h true x y = refl
 map_pick h false x y = refl
 
-pub map_take : {A B : Type 0} (f : A → B) (k : ℕ) (xs : List A) → take k (map f xs) ≡ map f (take k xs)
-map_take f zero xs = refl
-map_take f (suc k) [] = refl
-map_take f (suc k) (x ∷ xs) = ap (λ ys. f x ∷ ys) (map_take f k xs)
-
-pub map_drop : {A B : Type 0} (f : A → B) (k : ℕ) (xs : List A) → drop k (map f xs) ≡ map f (drop k xs)
-map_drop f zero xs = refl
-map_drop f (suc k) [] = refl
-map_drop f (suc k) (x ∷ xs) = map_drop f k xs
-
 module _ {A B : Type 0} (f : A → B) where
   pub log_length : (l : Log A) → length (map_log f l) ≡ length l
   log_length l = length-map l (map_entry f)
 
-  entry_map : (l : Log A) (i : ℕ) → entry_at (map_log f l) i ≡ map_entry f (entry_at l i)
+  pub entry_map : (l : Log A) (i : ℕ) → entry_at (map_log f l) i ≡ map_entry f (entry_at l i)
   entry_map [] i = refl
   entry_map (e ∷ es) zero = refl
   entry_map (e ∷ es) (suc i) = entry_map es i
@@ -59,7 +49,7 @@ module _ {A B : Type 0} (f : A → B) where
   unfolding renew
   renew_map t l =
       ap (λ (k : ℕ). take k (map_log f l) ++ entry t none ∷ []) (renew_index_map l)
-      ∙ ap (λ (x : Log B). x ++ entry t none ∷ []) (map_take (map_entry f) (renew_index l) l)
+      ∙ ap (λ (x : Log B). x ++ entry t none ∷ []) (take-map (map_entry f) (renew_index l) l)
       ∙ sym (map-append (map_entry f) (take (renew_index l) l) (entry t none ∷ []))
 
   has_entries_map : (l : Log A) (p : ℕ) (es : Log A) → has_entries (map_log f l) p (map_log f es) ≡ has_entries l p es
@@ -75,7 +65,7 @@ module _ {A B : Type 0} (f : A → B) where
   unfolding merge
   merge_map l p es =
       let cut : take p (map_log f l) ++ map_log f es ≡ map_log f (take p l ++ es) =
-      ap (λ (x : Log B). x ++ map_log f es) (map_take (map_entry f) p l) ∙ sym (map-append (map_entry f) (take p l) es) in
+      ap (λ (x : Log B). x ++ map_log f es) (take-map (map_entry f) p l) ∙ sym (map-append (map_entry f) (take p l) es) in
       let has = has_entries_map l p es in
       let both : pick (has_entries (map_log f l) p (map_log f es)) (map_log f l) (take p (map_log f l) ++ map_log f es)
       ≡ pick (has_entries l p es) (map_log f l) (map_log f (take p l ++ es)) = λ i. pick (has i) (map_log f l) (cut i) in

@@ -1,13 +1,13 @@
 -- A machine with mapped contents does the mapped thing. Assumes nothing.
 use Rattle.std.proofs.Common.{◌≡◌, ℕ, zero, suc, pred, ◌+◌, min, max, Bool, true, not, ◌&&◌, ◌||◌, eqb, ltb, leb, List, [], ◌∷◌, ◌++◌, map, length, take, drop, sym, refl, ap, ◌∙◌}
 use mathlib.Core.Option.{some}
-use Rattle.std.proofs.lemmas.List.{length-map, map-append}
+use Rattle.std.proofs.lemmas.List.{length-map, map-append, take-map, drop-map}
 use Rattle.protocol.specs.Lists.{pick, upd}
 use Rattle.protocol.specs.Log.{entry, Log, term_before, renew, merge, decisions}
 use Rattle.machine.specs.Machine.{Conf, Machine, machine, Role, follower, candidate, leader, Letter, append, request, vote, ack, reject, here, of_term, Out, out, Outcome, outcome, tick, receive, Input, event, proposal, decided}
-use Rattle.machine.specs.Step.{owner, is_majority, is_up_to_date, to_others, broadcast, request_of, append_at, majority_index, maybe_commit, leading, renewed, new_leader, become_leader, as_candidate, poll, as_follower, enter, ticked, reminder, tick_election, tick_as, on_tick, prev_matches, handle_append, matched, next_after, handle_ack, next_below, handle_reject, handle_as, handle, handle_old, or_else, enter_higher, handle_higher, on_letter, extended, proposed, propose_as, append_proposal, on_proposal, step}
+use Rattle.machine.specs.Step.{owner, is_majority, is_up_to_date, to_others, broadcast, request_of, append_at, majority_index, maybe_commit, leading, renewed, new_leader, become_leader, as_candidate, poll, as_follower, enter, ticked, reminder, tick_election, tick_as, on_tick, prev_matches, hint, handle_append, matched, next_after, handle_ack, next_below, handle_reject, handle_as, handle, handle_old, or_else, enter_higher, handle_higher, on_letter, extended, proposed, propose_as, append_proposal, on_proposal, step}
 use Rattle.machine.specs.Maps.{map_entry, map_log, map_machine, map_letter, map_out, map_outcome, map_input, StepNatural, DecidedNatural, StopNatural}
-use Rattle.machine.proofs.MapLogs.{map_pick, map_take, map_drop, log_length, term_before_map, last_term_map, renew_map, merge_map, decisions_map}
+use Rattle.machine.proofs.MapLogs.{map_pick, log_length, term_before_map, last_term_map, renew_map, merge_map, decisions_map}
 
 module _ {A B : Type 0} (f : A → B) where
   -- letters
@@ -35,7 +35,7 @@ module _ {A B : Type 0} (f : A → B) where
   append_map c m nx =
       let prev = term_before_map f m.log (pred nx) in
       let es : take c.batch (drop (pred nx) (map_log f m.log)) ≡ map_log f (take c.batch (drop (pred nx) m.log)) =
-      ap (take c.batch) (map_drop (map_entry f) (pred nx) m.log) ∙ map_take (map_entry f) c.batch (drop (pred nx) m.log) in
+      ap (take c.batch) (drop-map (map_entry f) (pred nx) m.log) ∙ take-map (map_entry f) c.batch (drop (pred nx) m.log) in
       λ i. append m.term (pred nx) (prev i) m.commit (es i)
 
   requests_map : (c : Conf) (id : ℕ) (m : Machine A) → broadcast c id (λ _. request_of (map_machine f m)) ≡ map (map_out f) (broadcast c id (λ _. request_of m))
@@ -118,19 +118,21 @@ module _ {A B : Type 0} (f : A → B) where
   tick_map c id m (leader a b) = ap (outcome (map_machine f m)) (appends_map c id m (map_machine f m) refl b b (λ _. refl))
 
   -- letters of the own term
-  handle_append_map : (j : ℕ) (m : Machine A) (p q k : ℕ) (es : Log A) → handle_append j (map_machine f m) p q k (map_log f es) ≡ map_outcome f (handle_append j m p q k es)
+  handle_append_map : (c : Conf) (j : ℕ) (m : Machine A) (p q k : ℕ) (es : Log A) →
+      handle_append c j (map_machine f m) p q k (map_log f es) ≡ map_outcome f (handle_append c j m p q k es)
   unfolding handle_append
-  handle_append_map j m p q k es =
+  handle_append_map c j m p q k es =
       let len = log_length f m.log in
       let prev = term_before_map f m.log p in
       let l = merge_map f m.log p es in
       let n = log_length f es in
+      let h : hint c (map_log f m.log) p q ≡ hint c m.log p q = λ i. c.hint (len i) (λ k. term_before_map f m.log k i) p q in
       (λ i. pick (leb p (len i) && eqb (prev i) q)
       (outcome (machine m.term follower true 0 (l i) (max m.commit (min k (p + n i)))) (out j (ack m.term (p + n i)) ∷ []))
-      (outcome (machine m.term follower true 0 (map_log f m.log) m.commit) (out j (reject m.term p (min (len i) (pred p))) ∷ [])))
+      (outcome (machine m.term follower true 0 (map_log f m.log) m.commit) (out j (reject m.term p (h i)) ∷ [])))
       ∙ sym (map_pick (map_outcome f) (prev_matches m.log p q)
       (outcome (machine m.term follower true 0 (merge m.log p es) (max m.commit (min k (p + length es)))) (out j (ack m.term (p + length es)) ∷ []))
-      (outcome (machine m.term follower true 0 m.log m.commit) (out j (reject m.term p (min (length m.log) (pred p))) ∷ [])))
+      (outcome (machine m.term follower true 0 m.log m.commit) (out j (reject m.term p (hint c m.log p q)) ∷ [])))
 
   handle_ack_map : (c : Conf) (id j : ℕ) (m : Machine A) (k : ℕ) (a b : ℕ → ℕ) → handle_ack c id j (map_machine f m) k a b ≡ map_outcome f (handle_ack c id j m k a b)
   unfolding handle_ack
@@ -170,7 +172,7 @@ module _ {A B : Type 0} (f : A → B) where
   up_to_date_map len last l = let e = last_term_map f l in let n = log_length f l in λ i. ltb (e i) last || (eqb (e i) last && leb (n i) len)
 
   handle_as_map : (c : Conf) (id j : ℕ) (m : Machine A) (r : Role) (l : Letter A) → handle_as c id j (map_machine f m) r (map_letter f l) ≡ map_outcome f (handle_as c id j m r l)
-  handle_as_map c id j m follower (append t p q k es) = handle_append_map j m p q k es
+  handle_as_map c id j m follower (append t p q k es) = handle_append_map c j m p q k es
   handle_as_map c id j m (candidate v) (append t p q k es) = refl
   handle_as_map c id j m (leader a b) (append t p q k es) = refl
   handle_as_map c id j m follower (request t len last) =
@@ -272,7 +274,7 @@ module _ {A B : Type 0} (f : A → B) where
 
   pub decided_map : (m : Machine A) → decided (map_machine f m) ≡ map f (decided m)
   unfolding decided
-  decided_map m = ap decisions (map_take (map_entry f) m.commit m.log) ∙ decisions_map f (take m.commit m.log)
+  decided_map m = ap decisions (take-map (map_entry f) m.commit m.log) ∙ decisions_map f (take m.commit m.log)
 
 pub step_natural : (A B : Type 0) → StepNatural A B
 step_natural A B f c id m i = step_map f c id m i

@@ -55,7 +55,7 @@ module _ (c : Conf) (j : ℕ) where
   tick_up m (candidate v) = election_up m
   tick_up m (leader a b) = same_up m _
 
-  append_up : (f : ℕ) (m : Machine ℕ) (p q k : ℕ) (es : Log ℕ) → Ups m (handle_append f m p q k es)
+  append_up : (f : ℕ) (m : Machine ℕ) (p q k : ℕ) (es : Log ℕ) → Ups m (handle_append c f m p q k es)
   unfolding handle_append
   append_up f m p q k es =
       pick_both (Ups m) (prev_matches m.log p q) _ _ (λ _. record { commit = omega arith; term = omega arith }) (λ _. record { commit = omega arith; term = omega arith })

@@ -2,11 +2,11 @@
 use Rattle.std.specs.Prelude.{◌≡◌, true, false, List, [], ◌∷◌}
 use Rattle.std.proofs.Math.Option.{none, some}
 use Rattle.protocol.specs.Log.{entry}
-use Rattle.machine.specs.Machine.{Conf, append, request, vote, ack, reject, here, tick, receive, event, proposal, decided}
+use Rattle.machine.specs.Machine.{Hint, Conf, append, request, vote, ack, reject, here, tick, receive, event, proposal, decided}
 use Rattle.machine.specs.World.{World, whole, early, late, Item, power, input, run, AllAllowed, initial}
 
-unfoldable pub three : Conf
-three = record { size = 3; wait = 3; batch = 4; room = 10 }
+unfoldable pub three : Hint → Conf
+three h = record { size = 3; wait = 3; batch = 4; room = 10; hint = h }
 
 -- machine 0 times out; 1 leads term 1 with its vote, and takes proposal 0, which 0 acknowledges; then the power of 1 goes
 unfoldable pub first : List Item
@@ -65,28 +65,29 @@ third =
     ∷ input 1 (event (receive 2 (append 5 4 5 4 []))) (whole false)
     ∷ []
 
-abbrev pub after_first : World
-after_first = run three initial first
+abbrev pub after_first : Hint → World
+after_first h = run (three h) initial first
 
-abbrev pub after_second : World
-after_second = run three after_first second
+abbrev pub after_second : Hint → World
+after_second h = run (three h) (after_first h) second
 
-abbrev pub after_third : World
-after_third = run three after_second third
+abbrev pub after_third : Hint → World
+after_third h = run (three h) (after_second h) third
 
-pub record ExampleRun : Type 0 where
-  pub first_allowed : AllAllowed three initial first
-  pub second_allowed : AllAllowed three after_first second
-  pub third_allowed : AllAllowed three after_second third
+-- of machines that hint by h
+pub record ExampleRun (h : Hint) : Type 0 where
+  pub first_allowed : AllAllowed (three h) initial first
+  pub second_allowed : AllAllowed (three h) (after_first h) second
+  pub third_allowed : AllAllowed (three h) (after_second h) third
   -- something is decided under the first leader, which falls and forgets that it is
-  pub first_decides : decided (after_first.memory 1) ≡ 0 ∷ []
-  pub first_falls : after_first.up 1 ≡ false
-  pub forgets : decided (after_second.memory 1) ≡ []
+  pub first_decides : decided ((after_first h).memory 1) ≡ 0 ∷ []
+  pub first_falls : (after_first h).up 1 ≡ false
+  pub forgets : decided ((after_second h).memory 1) ≡ []
   -- the second one falls too, and leaves an empty entry
-  pub second_falls : after_second.up 0 ≡ false
-  pub second_leaves : (after_second.memory 2).log ≡ entry 1 none ∷ entry 1 (some 0) ∷ entry 3 none ∷ []
+  pub second_falls : (after_second h).up 0 ≡ false
+  pub second_leaves : ((after_second h).memory 2).log ≡ entry 1 none ∷ entry 1 (some 0) ∷ entry 3 none ∷ []
   -- the last one renews it, and what was decided before is decided still
-  pub renews : (after_third.memory 2).log ≡ entry 1 none ∷ entry 1 (some 0) ∷ entry 5 none ∷ entry 5 (some 1) ∷ []
-  pub third_decides : decided (after_third.memory 2) ≡ 0 ∷ 1 ∷ []
-  pub all_hear : decided (after_third.memory 1) ≡ 0 ∷ 1 ∷ []
-  pub one_order : after_third.order ≡ 0 ∷ 1 ∷ []
+  pub renews : ((after_third h).memory 2).log ≡ entry 1 none ∷ entry 1 (some 0) ∷ entry 5 none ∷ entry 5 (some 1) ∷ []
+  pub third_decides : decided ((after_third h).memory 2) ≡ 0 ∷ 1 ∷ []
+  pub all_hear : decided ((after_third h).memory 1) ≡ 0 ∷ 1 ∷ []
+  pub one_order : (after_third h).order ≡ 0 ∷ 1 ∷ []

@@ -1,5 +1,6 @@
 pub mod Machine
 pub mod Step
+pub mod Hints
 pub mod Maps
 pub mod World
 pub mod Fits

@@ -2,12 +2,17 @@
 use Rattle.std.specs.Prelude.{ℕ, Bool, false, List, take}
 use Rattle.protocol.specs.Log.{Log, decisions}
 
--- how many machines, ticks to a time-out, entries to a letter, and values to a log
+-- a way of hinting: what a machine that refuses an append answers, of its log's length, the term before each place of it, and the place and the term that the append named
+abbrev pub Hint : Type 0
+Hint = ℕ → (ℕ → ℕ) → ℕ → ℕ → ℕ
+
+-- how many machines, ticks to a time-out, entries to a letter, values to a log, and the way of hinting
 pub record Conf : Type 0 where
   pub size : ℕ
   pub wait : ℕ
   pub batch : ℕ
   pub room : ℕ
+  pub hint : Hint
 
 -- a candidate knows who voted for it; a leader what each machine has acknowledged (match), and what it is sent next
 pub data Role : Type 0 where

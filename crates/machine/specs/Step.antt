@@ -97,11 +97,15 @@ on_tick c id m = tick_as c id m m.role
 abbrev pub prev_matches : {A : Type 0} → Log A → ℕ → ℕ → Bool
 prev_matches l p q = nat_le p (length l) && term_before l p == q
 
-unfoldable pub handle_append : {A : Type 0} → ℕ → Machine A → ℕ → ℕ → ℕ → Log A → Outcome A
-handle_append f m p q k es =
+-- an index at which the logs may agree
+abbrev pub hint : {A : Type 0} → Conf → Log A → ℕ → ℕ → ℕ
+hint c l p q = c.hint (length l) (term_before l) p q
+
+unfoldable pub handle_append : {A : Type 0} → Conf → ℕ → Machine A → ℕ → ℕ → ℕ → Log A → Outcome A
+handle_append c f m p q k es =
     pick (prev_matches m.log p q)
     (outcome (machine m.term follower true 0 (merge m.log p es) (max m.commit (min k (p + length es)))) (out f (ack m.term (p + length es)) ∷ []))
-    (outcome (machine m.term follower true 0 m.log m.commit) (out f (reject m.term p (min (length m.log) (pred p))) ∷ []))
+    (outcome (machine m.term follower true 0 m.log m.commit) (out f (reject m.term p (hint c m.log p q)) ∷ []))
 
 -- f has acknowledged i: its match, and what it is sent next, rise and never fall
 abbrev pub matched : (ℕ → ℕ) → ℕ → ℕ → ℕ → ℕ
@@ -132,7 +136,7 @@ handle_reject c f m p h a b =
 
 -- a letter of the own term, by role
 abbrev pub handle_as : {A : Type 0} → Conf → ℕ → ℕ → Machine A → Role → Letter A → Outcome A
-handle_as c id f m follower (append t p q k es) = handle_append f m p q k es
+handle_as c id f m follower (append t p q k es) = handle_append c f m p q k es
 handle_as c id f m (candidate v) (append t p q k es) = outcome m []
 handle_as c id f m (leader a b) (append t p q k es) = outcome m []
 handle_as c id f m follower (request t len last) = outcome m (out f (vote m.term (is_up_to_date len last m.log && not m.heard)) ∷ [])

@@ -1,10 +1,10 @@
 -- What is promised of machines in any world. Assumes nothing: these are statements.
-use Rattle.std.specs.Prelude.{◌≡◌, ℕ, ◌+◌, ◌*◌, ◌<◌, ◌≤◌, true, length, take, slice_index}
+use Rattle.std.specs.Prelude.{◌≡◌, ℕ, ◌+◌, ◌*◌, ◌<◌, ◌≤◌, Bool, true, length, take, slice_index}
 use Rattle.protocol.specs.Lists.{In, All, Apart, Begins, Alike}
 use Rattle.protocol.specs.Log.{content_at, decisions}
 use Rattle.protocol.specs.Cluster.{Cluster, start}
 use Rattle.machine.specs.Machine.{vote, Conf, Machine, leader, Input, restart, decided}
-use Rattle.machine.specs.Step.{step}
+use Rattle.machine.specs.Step.{is_majority, step}
 use Rattle.machine.specs.World.{mail, World, Item, Possible, Allowed, next, initial, At, RunsTo, Reachable}
 use Rattle.machine.specs.Fits.{Refines, RefinesAfter}
 
@@ -53,6 +53,12 @@ abbrev pub OneLeader : Type 0
 OneLeader =
     (c : Conf) (w v : World) (i j : ℕ) (a b a' b' : ℕ → ℕ) → Reachable c w → RunsTo c w v → w.up i ≡ true → v.up j ≡ true → (w.memory i).role ≡ leader a b →
     (v.memory j).role ≡ leader a' b' → (w.memory i).term ≡ (v.memory j).term → i ≡ j
+
+-- while more than half are up and in one term, the leader of that term has all that any machine ever held for decided
+abbrev pub LeaderHasOrder : Type 0
+LeaderHasOrder =
+    (c : Conf) (w : World) (up : ℕ → Bool) (t i : ℕ) (a b : ℕ → ℕ) → Reachable c w → is_majority c up ≡ true → ((j : ℕ) → up j ≡ true → (w.up j ≡ true) × ((w.memory j).term ≡ t)) →
+    w.up i ≡ true → (w.memory i).term ≡ t → (w.memory i).role ≡ leader a b → Begins w.order (decisions (w.memory i).log)
 
 -- in one term a machine votes for one only, over any stop
 abbrev pub OneVote : Type 0

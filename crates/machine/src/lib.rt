@@ -3,8 +3,9 @@
 
 ghost use Rattle.std.specs.Prelude.{◌≡◌, ℕ, List};
 ghost use Rattle.machine.specs.Theorems.{InitialRefines, ItemsAreMoves, GlobalOrder, OrderOnce, Agree, SamePlaces, SameNumbers, Further};
-ghost use Rattle.machine.specs.Theorems.{OneLeader, OneVote, AcksHeld, CommitRises, TermsRise, EventsExtend, StableGrows, TermsLast, LogsStaySmall};
+ghost use Rattle.machine.specs.Theorems.{OneLeader, OneVote, AcksHeld, LeaderHasOrder, CommitRises, TermsRise, EventsExtend, StableGrows, TermsLast, LogsStaySmall};
 ghost use Rattle.machine.specs.Maps.{StepNatural, DecidedNatural, StopNatural};
+ghost use Rattle.machine.specs.Hints.{shorter, by_term, ShorterAnswers, ByTermAnswers};
 ghost use Rattle.machine.specs.Example.{ExampleRun};
 
 /// Whatever happens in a world is a row of permitted moves, and each letter that flew stays true.
@@ -23,11 +24,12 @@ pub fn decisions_have_one_order()
     ensures further { Further }
 {}
 
-/// In one term no two lead and a machine votes for one only; what a leader holds for acknowledged is there.
+/// In one term no two lead and a machine votes for one only; what a leader holds for acknowledged is there, and with a majority in its term it has all that was decided.
 pub fn terms_have_one_leader()
     ensures leader { OneLeader }
     ensures votes { OneVote }
     ensures acks { AcksHeld }
+    ensures order { LeaderHasOrder }
 {}
 
 /// No event takes anything back.
@@ -57,5 +59,12 @@ pub fn contents_are_not_looked_at()
 
 /// A run of three machines in which leaders fall, an empty entry is renewed, and something is decided.
 pub fn three_machines_decide()
-    ensures { ExampleRun }
+    ensures shorter { ExampleRun shorter }
+    ensures by_term { ExampleRun by_term }
+{}
+
+/// What a machine answers to an append, by either way of hinting.
+pub fn refusals_carry_a_hint()
+    ensures shorter { ShorterAnswers ℕ }
+    ensures by_term { ByTermAnswers ℕ }
 {}

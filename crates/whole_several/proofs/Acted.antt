@@ -8,14 +8,15 @@ use Rattle.raft.specs.Outbox.{Mail as DueMail, mail_due}
 use Rattle.protocol.specs.Lists.{upd, In, All, Begins}
 use Rattle.protocol.specs.Log.{Log, term_at}
 use Rattle.protocol.proofs.Updates.{upd_same, upd_other}
+use Rattle.protocol.proofs.Lists.{begins_length}
 use Rattle.machine.specs.Machine.{Machine, Out, Outcome, Input, Persistent, persist, decided}
-use Rattle.machine_several.specs.Step.{step}
-use Rattle.machine_several.specs.Maps.{map_log, map_machine, map_outcome}
-use Rattle.machine_several.specs.World.{World as Theory, Mail, post, longer, Fate, whole, early, late, Item, input, Possible, Unchanged, Settles, Allowed, proposals_after, settled, next, Reachable}
-use Rattle.machine_several.proofs.MapLogs.{log_length}
-use Rattle.machine_several.proofs.Terms.{TermsBelow, terms_next}
-use Rattle.machine_several.proofs.Steps.{runs_one, order_grows, step_decided}
-use Rattle.machine_several.proofs.Sames.{same_log, step_extends}
+use Rattle.machine.specs.Step.{step}
+use Rattle.machine.specs.Maps.{map_log, map_machine, map_outcome}
+use Rattle.machine.specs.World.{World as Theory, Mail, post, longer, Fate, whole, early, late, Item, input, Possible, Unchanged, Settles, Allowed, proposals_after, settled, next, Reachable}
+use Rattle.machine.proofs.MapLogs.{log_length}
+use Rattle.machine.proofs.Terms.{TermsBelow, terms_next}
+use Rattle.machine.proofs.Steps.{runs_one, order_grows, step_decided}
+use Rattle.machine.proofs.Sames.{same_log, step_extends}
 use Rattle.join_several.specs.Stands.{conf}
 use Rattle.join_several.specs.Does.{posted, Does}
 use Rattle.together.specs.House.{pick, each, nth_value, Far, may_apply, far_after}
@@ -25,7 +26,7 @@ use Rattle.whole_several.proofs.Acts.{Fit, safe, safe_still, safe_settled, settl
 use Rattle.whole_several.proofs.Moved.{Moved, Became}
 use Rattle.whole_several.proofs.Joined.{Agrees, Going, Rests, Safe, Carried, Boxes}
 use Rattle.whole_several.proofs.Sent.{MailFits, as_wire, agrees_self, in_left, in_right, carried_all, boxes_all}
-use Rattle.whole_several.proofs.Made.{made, made_settle, going_fit, going_decided, safe_going, Fine, made_fine, begins_long}
+use Rattle.whole_several.proofs.Made.{made, made_settle, going_fit, going_decided, safe_going, Fine, made_fine}
 use Rattle.whole_several.proofs.Views.{decided_is}
 
 -- the terms of a log do not depend on what its entries hold
@@ -109,7 +110,7 @@ module _
   ordered = step_decided (conf n) w h e reach up possible (whole true) (λ q. false≢true (ap is_early q))
 
   order_up : length w.order ≤ length o
-  order_up = begins_long w.order o (order_grows (conf n) w (input h e (whole true)) reach (up, possible, tt))
+  order_up = begins_length w.order o (order_grows (conf n) w (input h e (whole true)) reach (up, possible, tt))
 
   abbrev stable_then : Bool → List ℕ
   stable_then b = pick b (safe m₁ fit.long) s

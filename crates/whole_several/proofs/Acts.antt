@@ -18,7 +18,7 @@ use Rattle.together_several.specs.Machine.{apply_due, send_due, go_on, own_step,
 use Rattle.together_several.specs.Entry.{own}
 use Rattle.whole.proofs.Plans.{Planned, PlannedAct}
 use Rattle.whole_several.proofs.Smalls.{Kept, kept_go_on, are_bytes_from}
-use Rattle.whole_several.proofs.Mails.{Still, still_entries, still_decided, mail_same, still_flown, flown_loaded, flown_applied, Flies, flies_first, MailsFit, mail_fits}
+use Rattle.whole_several.proofs.Mails.{Still, still_entries, still_decided, mail_same, still_flown, flown_loaded, flown_applied, Flies, flies_first, MailsFit, mail_fits, no_way}
 
 -- memories that the machine runs on
 pub record Fit (m : List ℕ) : Type 0 where
@@ -231,7 +231,7 @@ may_fly m small l ls e =
     let bs : List ℕ = letter_bytes l.letter in
     and_from (leb (length bs) 4096) (are_bytes bs) (le-leb (length bs) 4096 (letter_short l.letter f.1)) (are_bytes_from bs (letter_all l.letter f.1))
 
-own_next : (m : List ℕ) → own.step m next ≡ go_on m
+pub own_next : (m : List ℕ) → own.step m next ≡ go_on m
 unfolding own own_step
 own_next m = refl
 
@@ -240,9 +240,6 @@ pub record First (m : List ℕ) (a : Act) (as₁ : List Act) : Type 0 where
   pub step : go_on m ≡ answer (rest m) a
   pub then : acts (rest m) ≡ as₁
   pub good : PlannedAct a
-
-no_way : {A : Type 0} → ◌≡◌ {A = ℕ} 0 1 → A
-no_way e = absurd (omega arith)
 
 first : (m : List ℕ) (a : Act) (as₁ : List Act) → Fit m → acts m ≡ a ∷ as₁ → First m a as₁
 unfolding rest

@@ -4,13 +4,14 @@ use mathlib.Core.Option.{Option, none, some}
 use Rattle.std.proofs.lemmas.Bool.{eqb-true, leb-true, le-leb, and_parts, and_from, cases_Bool, false≢true}
 use Rattle.messages.specs.Letter.{Letter as Message, request_vote_response, letter_of}
 use Rattle.protocol.specs.Lists.{In, All, Begins}
+use Rattle.protocol.proofs.Lists.{begins_at, begins_length, all_in}
 use Rattle.raft.specs.Header.{loaded}
 use Rattle.machine.specs.Machine.{Machine as Model, Letter, append, request, vote, ack, reject, here, restart}
-use Rattle.machine_several.specs.Maps.{map_letter}
-use Rattle.machine_several.specs.World.{World as Theory, mail, initial, RunsTo, At}
-use Rattle.machine_several.proofs.Steps.{runs_none, runs_trans, order_ok}
-use Rattle.machine_several.proofs.Theorems.{one_vote}
-use Rattle.machine_several.proofs.Stable.{terms_last}
+use Rattle.machine.specs.Maps.{map_letter}
+use Rattle.machine.specs.World.{World as Theory, mail, initial, RunsTo, At}
+use Rattle.machine.proofs.Steps.{runs_none, runs_trans, order_ok}
+use Rattle.machine.proofs.Theorems.{one_vote}
+use Rattle.machine.proofs.Stable.{terms_last}
 use Rattle.join_several.specs.Stands.{conf}
 use Rattle.join_several.specs.Does.{lift_letter}
 use Rattle.together.specs.House.{pick, every, same, Applied, nth_value, by_order}
@@ -20,7 +21,6 @@ use Rattle.whole_several.specs.History.{enough, happens, history, first_world, a
 use Rattle.whole_several.proofs.Joined.{Agrees, Carried, Joined}
 use Rattle.whole_several.proofs.Moved.{Moved, agrees_later, moved_joined}
 use Rattle.whole_several.proofs.Sent.{agrees_self}
-use Rattle.whole_several.proofs.Made.{begins_at, begins_long}
 use Rattle.whole_several.proofs.Things.{terms_later}
 use Rattle.whole_several.proofs.Worlds.{thing_right}
 use Rattle.whole_several.proofs.Main.{first_joined}
@@ -60,11 +60,11 @@ module _ (ps ps₁ : List (List ℕ)) (later : (g : ℕ → List ℕ) → Agrees
       let q = and_parts (leb 1 a.index) (leb a.index (length o)) p.0 in
       let least = leb-true 1 a.index q.0 in
       let most = leb-true a.index (length o) q.1 in
-      let here : get_or o (a.index - 1) 0 ≡ get_or o₁ (a.index - 1) 0 = begins_at o o₁ (a.index - 1) grows (omega arith) in
+      let here : get_or o (a.index - 1) 0 ≡ get_or o₁ (a.index - 1) 0 = begins_at 0 o o₁ (a.index - 1) (omega arith) grows in
       let value : nth_value ps (get_or o (a.index - 1) 0) ≡ nth_value ps₁ (get_or o₁ (a.index - 1) 0) =
       sym (later (nth_value ps₁) (agrees_self ps₁) (get_or o (a.index - 1) 0) (below (a.index - 1) (omega arith))) ∙ ap (nth_value ps₁) here in
       and_from (leb 1 a.index && leb a.index (length o₁)) (same a.value (nth_value ps₁ (get_or o₁ (a.index - 1) 0)))
-      (and_from (leb 1 a.index) (leb a.index (length o₁)) q.0 (le-leb a.index (length o₁) (omega (arith, begins_long o o₁ grows))))
+      (and_from (leb 1 a.index) (leb a.index (length o₁)) q.0 (le-leb a.index (length o₁) (omega (arith, begins_length o o₁ grows))))
       (subst (λ (x : List ℕ). same a.value x ≡ true) value p.1)
 
   by_all : (as₁ : List Applied) → every (by_order ps o) as₁ ≡ true → every (by_order ps₁ o₁) as₁ ≡ true
@@ -86,11 +86,6 @@ unfolding every
 every_in p [] a e i = absurd i
 every_in p (b ∷ bs) a e (inl q) = subst (λ (x : Applied). p x ≡ true) q (and_parts (p b) (every p bs) e).0
 every_in p (b ∷ bs) a e (inr i) = every_in p bs a (and_parts (p b) (every p bs) e).1 i
-
-all_at : {A : Type 0} (P : A → Type 0) (xs : List A) (x : A) → All P xs → In x xs → P x
-all_at P [] x h i = absurd i
-all_at P (y ∷ ys) x h (inl e) = subst (λ (z : _). P z) e h.0
-all_at P (y ∷ ys) x h (inr i) = all_at P ys x h.1 i
 
 below_all : (n : ℕ) (o : List ℕ) → All (λ p. p < n) o → (i : ℕ) → i < length o → get_or o i 0 < n
 below_all n [] h i l = absurd (omega arith)
@@ -213,7 +208,7 @@ known (some m) d = m
 vote_flew : (n k : ℕ) (v : World) (w : Theory) → Joined n k v w → (x : Flown) (t : ℕ) → In x v.wire → letter_of x.what.bytes ≡ some (request_vote_response t true) →
     In (mail x.by_whom x.what.to (vote t true)) w.network
 vote_flew n k v w j x t i e =
-    let c = all_at (Carried v.proposed w) v.wire x j.wire i in
+    let c = all_in (Carried v.proposed w) x v.wire j.wire i in
     let m : c.message ≡ request_vote_response t true = ap (λ (o : Option Message). known o c.message) (sym c.reads ∙ e) in
     let l : map_letter (nth_value v.proposed) c.letter ≡ vote t true = sym (c.means (nth_value v.proposed) (agrees_self v.proposed)) ∙ ap lift_letter m in
     subst (λ (y : Letter ℕ). In (mail x.by_whom x.what.to y) w.network) (unmapped c.letter l) c.flew

@@ -16,18 +16,19 @@ use Rattle.raft.specs.Receive.{received_from_another}
 use Rattle.protocol.specs.Lists.{In}
 use Rattle.protocol.specs.Log.{Entry, Log, entry_at, term_at, decisions}
 use Rattle.machine.specs.Machine.{Letter, append, request, vote, ack, reject, here, Outcome, tick, receive, Input, event, proposal}
-use Rattle.machine_several.specs.Step.{step}
-use Rattle.machine_several.specs.Maps.{map_entry, map_log, map_machine, map_letter, map_input, map_outcome}
-use Rattle.machine_several.specs.World.{World as Theory, mail, Possible, Reachable}
-use Rattle.machine_several.proofs.MapLogs.{log_length, decisions_map}
-use Rattle.machine_several.proofs.Maps.{step_map}
-use Rattle.machine_several.proofs.Steps.{step_small, step_commit}
-use Rattle.machine_several.proofs.Agreeing.{appends_agree}
+use Rattle.machine.specs.Step.{step}
+use Rattle.machine.specs.Maps.{map_entry, map_log, map_machine, map_letter, map_input, map_outcome}
+use Rattle.machine.specs.World.{World as Theory, mail, Possible, Reachable}
+use Rattle.machine.proofs.MapLogs.{log_length, decisions_map, entry_map}
+use Rattle.machine.proofs.Maps.{step_map}
+use Rattle.machine.proofs.Steps.{step_small, step_commit}
+use Rattle.machine.proofs.Agreeing.{appends_agree}
 use Rattle.join_several.specs.Stands.{conf, lift_entry, lift_log, Stands}
 use Rattle.join_several.specs.Does.{lift_letter, Room, Does}
 use Rattle.join_several.proofs.Ticks.{ticked_does}
 use Rattle.join_several.proofs.Proposals.{taken_does}
 use Rattle.join_several.proofs.Received.{Fitting, received_does}
+use Rattle.join_several.proofs.Lifts.{lift_at, lift_length}
 use Rattle.together.specs.House.{nth_value}
 use Rattle.whole.proofs.Orders.{nth_last}
 use Rattle.whole_several.proofs.Joined.{Agrees}
@@ -113,21 +114,6 @@ entries (ack t i) = []
 entries (reject t p h) = []
 entries (here t) = []
 
-lift_at : (rows : List Row) (j : ℕ) → lift_entry (get_or rows j no_entry) ≡ entry_at (lift_log rows) j
-unfolding lift_log
-lift_at [] j = refl
-lift_at (e ∷ es) zero = refl
-lift_at (e ∷ es) (suc j) = lift_at es j
-
-map_at : (g : ℕ → List ℕ) (l : Log ℕ) (j : ℕ) → entry_at (map_log g l) j ≡ map_entry g (entry_at l j)
-map_at g [] j = refl
-map_at g (e ∷ es) zero = refl
-map_at g (e ∷ es) (suc j) = map_at g es j
-
-lift_length : (rows : List Row) → length (lift_log rows) ≡ length rows
-unfolding lift_log
-lift_length rows = length-map rows lift_entry
-
 same_rows : (a b : Row) → lift_entry a ≡ lift_entry b → a ≡ b
 same_rows a b e = λ i. record { term = (e i).term; content = (e i).content }
 
@@ -135,7 +121,7 @@ same_rows a b e = λ i. record { term = (e i).term; content = (e i).content }
 module _ (g : ℕ → List ℕ) (rows es : List Row) (l ls : Log ℕ) (p : ℕ) (log : lift_log rows ≡ map_log g l) (own : lift_log es ≡ map_log g ls)
     (agree : (i : ℕ) → i < length ls → p + i < length l → term_at l (p + i) ≡ term_at ls i → entry_at l (p + i) ≡ entry_at ls i) where
   row_at : (xs : List Row) (ys : Log ℕ) → lift_log xs ≡ map_log g ys → (j : ℕ) → lift_entry (get_or xs j no_entry) ≡ map_entry g (entry_at ys j)
-  row_at xs ys e j = lift_at xs j ∙ (ap (λ (z : Log (List ℕ)). entry_at z j) e ∙ map_at g ys j)
+  row_at xs ys e j = sym (lift_at xs j) ∙ (ap (λ (z : Log (List ℕ)). entry_at z j) e ∙ entry_map g ys j)
 
   rows_agree : Agreeing rows p es
   rows_agree i a b terms =

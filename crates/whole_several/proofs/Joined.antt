@@ -7,9 +7,9 @@ use Rattle.messages.specs.Letter.{Letter as Message, letter_of, LetterFits}
 use Rattle.raft.specs.Header.{loaded}
 use Rattle.protocol.specs.Lists.{In, All}
 use Rattle.machine.specs.Machine.{Machine, Letter, Persistent}
-use Rattle.machine_several.specs.Maps.{map_log, map_machine, map_letter}
-use Rattle.machine_several.specs.World.{World as Theory, Mail, mail, Reachable}
-use Rattle.machine_several.proofs.Terms.{TermsBelow}
+use Rattle.machine.specs.Maps.{map_log, map_machine, map_letter}
+use Rattle.machine.specs.World.{World as Theory, Mail, mail, Reachable}
+use Rattle.machine.proofs.Terms.{TermsBelow}
 use Rattle.join_several.specs.Stands.{conf, lift_log, Stands}
 use Rattle.join_several.specs.Does.{lift_letter, Quiet}
 use Rattle.together.specs.House.{nth_value, Far, may_apply}

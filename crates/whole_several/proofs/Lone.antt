@@ -2,8 +2,8 @@
 use Rattle.std.proofs.Common.{◌≡◌, ℕ, zero, suc, ◌+◌, ◌<◌, ◌≤◌, Bool, true, false, ◌⊎◌, length, sym, refl, ap, ◌∙◌, subst, inl, inr, arith}
 use Rattle.std.proofs.lemmas.Bool.{cases_lt, false≢true}
 use Rattle.machine.specs.Machine.{Role, follower, candidate, leader, Machine, Outcome}
-use Rattle.machine_several.specs.Step.{on_tick}
-use Rattle.machine_several.proofs.Alone.{alone_waits, alone_elected, alone_leader_tick}
+use Rattle.machine.specs.Step.{on_tick}
+use Rattle.machine.proofs.Alone.{alone_waits, alone_elected, alone_leader_tick}
 use Rattle.join_several.specs.Stands.{conf}
 
 abbrev pub is_leader : Role → Bool

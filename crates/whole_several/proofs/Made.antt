@@ -1,6 +1,6 @@
 -- What is due after an event is done, as far as power lasts: letters fly and decisions are applied in turn, and memory stands for the same machine all along.
 use Rattle.std.proofs.Common.{◌≡◌, ℕ, zero, suc, ◌+◌, ◌-◌, ◌<◌, ◌≤◌, Bool, true, false, cond, ◌&&◌, ltb, leb, ◌⊎◌, List, [], ◌∷◌, ◌++◌, length, get_or, take, Some, None, Option, sym, refl, ap, ◌∙◌, subst, inl, inr, arith}
-use Rattle.std.proofs.lemmas.List.{get_or_append_left, get_or-set_same, length-append}
+use Rattle.std.proofs.lemmas.List.{get_or-set_same, length-append}
 use Rattle.std.proofs.lemmas.Bool.{ltb-true, ltb-false, le-leb, eq-eqb, and_from, true≢false}
 use Rattle.raft_log.specs.Layout.{memory_words}
 use Rattle.raft_log.specs.Values.{value_at}
@@ -15,8 +15,9 @@ use Rattle.raft.specs.Outbox.{Mail as DueMail, due_to, mail_at, mail_from, mail_
 use Rattle.raft.specs.Apply.{settled, applied_up_to, advanced}
 use Rattle.raft.proofs.HeaderLaws.{length_stored, stored_other}
 use Rattle.protocol.specs.Lists.{Begins}
+use Rattle.protocol.proofs.Lists.{begins_at, begins_length}
 use Rattle.machine.specs.Machine.{Machine, decided}
-use Rattle.machine_several.specs.Maps.{map_machine}
+use Rattle.machine.specs.Maps.{map_machine}
 use Rattle.join_several.specs.Stands.{lift_log, RoleStands, Stands}
 use Rattle.join_several.proofs.Frames.{role_alike}
 use Rattle.together.specs.House.{pick, every, each, same, Applied, applied, Far, next_ok, may_apply, larger, got_to, all_in_turn, far_after, nth_value, by_order}
@@ -117,14 +118,6 @@ larger_le a b n p q = go (ltb a b)
     go true = q
     go false = p
 
-pub begins_at : (a b : List ℕ) (k : ℕ) → Begins a b → k < length a → get_or a k 0 ≡ get_or b k 0
-unfolding Begins
-begins_at a b k h l = sym (get_or_append_left a h.0 0 k l) ∙ ap (λ (x : List ℕ). get_or x k 0) h.1
-
-pub begins_long : (a b : List ℕ) → Begins a b → length a ≤ length b
-unfolding Begins
-begins_long a b h = omega (arith, length-append a h.0, ap (λ (x : List ℕ). length x) h.1)
-
 -- the word that is set
 set_word : (m : List ℕ) (k : ℕ) → length m ≡ memory_words → get_or (applied_set m k) 66 0 ≡ k
 unfolding applied_set
@@ -211,9 +204,9 @@ module _ (n h : ℕ) (few : n ≤ 7) (ps : List (List ℕ)) (x : Machine ℕ) wh
           let t = g.means (nth_value ps) (agrees_self ps) in
           let d = going_decided m f g in
           let k : j < length (decided x) = omega arith in
-          let in_order : j < length o = omega (arith, begins_long (decided x) o ordered) in
+          let in_order : j < length o = omega (arith, begins_length (decided x) o ordered) in
           let v : value_at m j ≡ nth_value ps (get_or o (j + 1 - 1) 0) =
-          value_is m t.tidy x (nth_value ps) t.log t.commit j l ∙ (ap (nth_value ps) (begins_at (decided x) o j ordered k) ∙ ap (λ (i : ℕ). nth_value ps (get_or o i 0)) (let q : j ≡ j + 1 - 1 = omega arith in q)) in
+          value_is m t.tidy x (nth_value ps) t.log t.commit j l ∙ (ap (nth_value ps) (begins_at 0 (decided x) o j k ordered) ∙ ap (λ (i : ℕ). nth_value ps (get_or o i 0)) (let q : j ≡ j + 1 - 1 = omega arith in q)) in
           and_from (leb 1 (j + 1) && leb (j + 1) (length o)) (same (value_at m j) (nth_value ps (get_or o (j + 1 - 1) 0)))
           (and_from (leb 1 (j + 1)) (leb (j + 1) (length o)) (le-leb 1 (j + 1) (omega arith)) (le-leb (j + 1) (length o) (omega arith)))
           (subst (λ (z : List ℕ). same (value_at m j) z ≡ true) v (same_self (value_at m j)))
@@ -295,7 +288,7 @@ module _ (n h : ℕ) (few : n ≤ 7) (ps : List (List ℕ)) (x : Machine ℕ) wh
             let f₁ : Far = got_to f (applied_number m + 1) in
             let u₁ : (loaded (onward m fit₁.long)).unsettled ≡ false = ap (λ (z : Header). z.unsettled) (onward_loaded m fit₁.long) ∙ q in
             let d = going_decided m f g in
-            let b₁ : (got_to f (applied_number m + 1)).ever ≤ length o = larger_le f.ever (applied_number m + 1) (length o) b (omega (arith, begins_long (decided x) o ordered)) in
+            let b₁ : (got_to f (applied_number m + 1)).ever ≤ length o = larger_le f.ever (applied_number m + 1) (length o) b (omega (arith, begins_length (decided x) o ordered)) in
             let z : Fine [] s (got_to f (applied_number m + 1)) (made k (onward m fit₁.long) s) =
             subst (λ (y : List DueMail). Fine y s (got_to f (applied_number m + 1)) (made k (onward m fit₁.long) s)) (onward_mail m fit₁.long ∙ e) (more (onward m fit₁.long) (got_to f (applied_number m + 1)) (onward_going m f g l) u₁ b₁) in
             subst (λ (y : List DueMail). Fine y s f (made (suc k) m s)) (sym e)

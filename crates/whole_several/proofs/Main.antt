@@ -9,9 +9,9 @@ use Rattle.raft_log.specs.Entries.{last_index, commit_index, applied_number}
 use Rattle.raft_log.proofs.LogLaws.{commit_most}
 use Rattle.raft_log.proofs.ViewLaws.{length_log}
 use Rattle.raft.specs.Header.{loaded}
-use Rattle.machine_several.specs.World.{blank, initial}
-use Rattle.machine_several.proofs.Terms.{terms_initial}
-use Rattle.machine_several.proofs.Steps.{runs_none}
+use Rattle.machine.specs.World.{blank, initial}
+use Rattle.machine.proofs.Terms.{terms_initial}
+use Rattle.machine.proofs.Steps.{runs_none}
 use Rattle.join_several.specs.Stands.{conf, lift_log}
 use Rattle.together.specs.House.{far}
 use Rattle.together.specs.Promise.{Machine, machine, so_many, world, Right, Whole}

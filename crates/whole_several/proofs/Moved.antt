@@ -1,14 +1,15 @@
 -- From what an event did to one machine to the world after it.
 use Rattle.std.proofs.Common.{◌≡◌, ℕ, suc, ◌<◌, ◌≤◌, Bool, true, false, not, ◌&&◌, eqb, ltb, ◌≢◌, List, [], ◌∷◌, ◌++◌, length, sym, refl, ap, ◌∙◌, subst, inl, inr, arith}
-use Rattle.std.proofs.lemmas.List.{length_push, length-append}
+use Rattle.std.proofs.lemmas.List.{length_push}
 use Rattle.std.proofs.lemmas.Bool.{lt-ltb, eq-eqb, ne_eqb, and_from, cases_eq, not_from_false, false≢true}
 use Rattle.protocol.specs.Lists.{In, All, Apart, Begins}
 use Rattle.protocol.proofs.Updates.{upd_same}
+use Rattle.protocol.proofs.Lists.{begins_length}
 use Rattle.machine.specs.Machine.{Out, Input}
-use Rattle.machine_several.specs.Step.{step}
-use Rattle.machine_several.specs.World.{World as Theory, Mail, post, whole, input, next, initial, RunsTo, Reachable}
-use Rattle.machine_several.proofs.Terms.{TermsBelow}
-use Rattle.machine_several.proofs.Steps.{order_ok, runs_trans}
+use Rattle.machine.specs.Step.{step}
+use Rattle.machine.specs.World.{World as Theory, Mail, post, whole, input, next, initial, RunsTo, Reachable}
+use Rattle.machine.proofs.Terms.{TermsBelow}
+use Rattle.machine.proofs.Steps.{order_ok, runs_trans}
 use Rattle.join_several.specs.Stands.{conf}
 use Rattle.together.specs.House.{pick, or, every, any, each, propose, how_far, Far, all_in_turn, far_after, all_apart, an_order, begins, by_order}
 use Rattle.together.specs.Promise.{Letter, Ran, Machine, machine_at, set_machine, Flown, flown, World, Thing, power, says, delivers, ticks, to_whom, before, after_machine, with_proposal, after_thing, applied_right}
@@ -38,10 +39,6 @@ begins_true a b h = subst (λ (x : List ℕ). begins a x ≡ true) h.1 (front a 
     front : (xs ys : List ℕ) → begins xs (xs ++ ys) ≡ true
     front [] ys = refl
     front (x ∷ xs) ys = and_from (eqb x x) (begins xs (xs ++ ys)) (eq-eqb x x refl) (front xs ys)
-
-pub begins_longer : (a b : List ℕ) → Begins a b → length a ≤ length b
-unfolding Begins
-begins_longer a b h = omega (arith, length-append a h.0, ap (λ (x : List ℕ). length x) h.1)
 
 -- what was proposed stays so
 pub agrees_push : (ps : List (List ℕ)) (v : List ℕ) (g : ℕ → List ℕ) → Agrees g (ps ++ v ∷ []) → Agrees g ps
@@ -222,4 +219,4 @@ module _
       ever_old : (h : ℕ) → h < n → h ≢ to_whom v t → (machine_at ms h).how_it_got.ever ≤ length z.to.order
       ever_old h l d =
           subst (λ (x : Machine). x.how_it_got.ever ≤ length z.to.order) (sym (is_old h d))
-          (omega (arith, j.ever h l, begins_longer w.order z.to.order z.grows, ap (λ (x : List ℕ). length x) j.order))
+          (omega (arith, j.ever h l, begins_length w.order z.to.order z.grows, ap (λ (x : List ℕ). length x) j.order))

@@ -3,17 +3,18 @@ use Rattle.std.proofs.Common.{◌≡◌, ℕ, zero, suc, ◌+◌, ◌-◌, ◌�
 use Rattle.std.proofs.lemmas.List.{append-nil, take_all}
 use Rattle.raft_log.specs.Entries.{applied_number, decided as decided_number}
 use Rattle.protocol.specs.Log.{decisions}
+use Rattle.protocol.proofs.Lists.{begins_length}
 use Rattle.machine.specs.Machine.{Machine as Model, event, tick as model_tick, decided}
-use Rattle.machine_several.specs.World.{World as Theory}
-use Rattle.machine_several.proofs.Steps.{commit_up}
-use Rattle.machine_several.proofs.AloneHolds.{alone_decided, alone_order_up}
-use Rattle.machine_several.proofs.Alone.{alone_tick_silent}
+use Rattle.machine.specs.World.{World as Theory}
+use Rattle.machine.proofs.Steps.{commit_up}
+use Rattle.machine.proofs.AloneHolds.{alone_decided, alone_order_up}
+use Rattle.machine.proofs.Alone.{alone_tick_silent}
 use Rattle.join_several.specs.Stands.{conf}
 use Rattle.together.specs.House.{pick, each, Applied, Far}
 use Rattle.together.specs.Promise.{tick, Letter as Wire, Ran, runs, last_since, most, Machine, machine_at, set_machine, World, world, Flown, flown, ticks, to_whom, event_for, proper, before, thing_ran, after_machine, with_proposal, after_thing, all_tick, all_come, round, rounds, most_applied}
 use Rattle.together_several.specs.Entry.{own}
 use Rattle.whole_several.proofs.Joined.{Rests, Joined}
-use Rattle.whole_several.proofs.Moved.{Became, became_now, became_silent, begins_longer, moved_joined}
+use Rattle.whole_several.proofs.Moved.{Became, became_now, became_silent, moved_joined}
 use Rattle.whole_several.proofs.Made.{going_decided}
 use Rattle.whole_several.proofs.Lone.{Leads, Near, near_tick}
 use Rattle.whole_several.proofs.Things.{enough, tick_became}
@@ -74,7 +75,7 @@ module _ (ps : List (List ℕ)) (fs : List Flown) where
     leader_since l = rests_since 1 0 (omega arith) ps (w.memory 0) x.memory x.how_it_got rests ∙ ap (λ (vs : List ℕ). length vs) (leader_decided l)
 
     pub order_within : length w.order ≤ length (decisions (w.memory 0).log)
-    order_within = begins_longer w.order (decisions (w.memory 0).log) (alone_order_up (conf 1) w refl j.reach model_up)
+    order_within = begins_length w.order (decisions (w.memory 0).log) (alone_order_up (conf 1) w refl j.reach model_up)
 
     -- A TICK
     module _ (low : k ≤ 8589934592) where
@@ -118,7 +119,7 @@ module _ (ps : List (List ℕ)) (fs : List Flown) where
       next_near r q = subst (λ (y : Model ℕ). Near r y) (sym (became_now 1 k 0 ps x.how_it_got w tick_ran (event model_tick) became)) (near_tick r (w.memory 0) within_log q)
 
       pub next_order : length w.order ≤ length next_theory.order
-      next_order = begins_longer w.order next_theory.order became.moved.grows
+      next_order = begins_length w.order next_theory.order became.moved.grows
 
       -- A ROUND is a tick
       module _ (o : List ℕ) where

@@ -1,23 +1,17 @@
 -- The letters that a machine sends: their bytes on the wire stand for the theory's letters.
-use Rattle.std.proofs.Common.{◌≡◌, ℕ, zero, suc, true, ltb, List, [], ◌∷◌, ◌++◌, map, length, take, sym, refl, ap, subst, inl, inr, arith}
-use Rattle.std.proofs.lemmas.Bool.{lt-ltb, and_from}
-use Rattle.raft_log.specs.Bytes.{Bytes}
+use Rattle.std.proofs.Common.{◌≡◌, ℕ, zero, suc, List, [], ◌∷◌, ◌++◌, map, length, take, sym, refl, ap, subst, inl, inr, arith}
 use Rattle.messages.specs.Letter.{letter_bytes, LetterFits}
 use Rattle.messages.proofs.RoundTrip.{round_trip, letters_short}
 use Rattle.raft.specs.Outbox.{Mail as DueMail}
 use Rattle.protocol.specs.Lists.{In, All}
 use Rattle.machine.specs.Machine.{Out}
-use Rattle.machine_several.specs.Maps.{map_out}
-use Rattle.machine_several.specs.World.{World as Theory, Mail, mail, post}
+use Rattle.machine.specs.Maps.{map_out}
+use Rattle.machine.specs.World.{World as Theory, Mail, mail, post}
 use Rattle.join_several.specs.Does.{lift_mail}
-use Rattle.together.specs.House.{every, each, nth_value}
-use Rattle.together.specs.Promise.{are_bytes, Letter as Wire, letter, flown}
+use Rattle.together.specs.House.{each, nth_value}
+use Rattle.together.specs.Promise.{Letter as Wire, letter, flown}
 use Rattle.whole_several.proofs.Joined.{Agrees, Carried, Boxes}
-
-pub bytes_are : (bs : List ℕ) → Bytes bs → are_bytes bs ≡ true
-unfolding every
-bytes_are [] h = refl
-bytes_are (b ∷ bs) h = and_from (ltb b 256) (every (λ x. ltb x 256) bs) (lt-ltb b 256 (h 0)) (bytes_are bs (λ i. h (suc i)))
+use Rattle.whole_several.proofs.Smalls.{are_bytes_from}
 
 pub in_left : {A : Type 0} (x : A) (xs ys : List A) → In x xs → In x (xs ++ ys)
 in_left x [] ys i = absurd i
@@ -69,7 +63,7 @@ module _ (h : ℕ) (ps : List (List ℕ)) (w : Theory) where
       record {
         message = l.letter;
         letter = o.letter;
-        bytes = bytes_are (letter_bytes l.letter) short.0;
+        bytes = are_bytes_from (letter_bytes l.letter) short.0;
         reads = round_trip l.letter f;
         fits = f;
         flew = subst (λ (j : ℕ). In (mail h j o.letter) w.network) (sym to) i;

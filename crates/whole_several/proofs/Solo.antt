@@ -11,20 +11,21 @@ use Rattle.raft.specs.Header.{loaded}
 use Rattle.raft.specs.Proposal.{taken, propose_as, proposed}
 use Rattle.protocol.specs.Log.{entry, decisions}
 use Rattle.protocol.proofs.Decisions.{decisions_none, decisions_some, decisions-++}
+use Rattle.protocol.proofs.Lists.{begins_at}
 use Rattle.machine.specs.Machine.{Machine as Model, Outcome, proposal, decided}
-use Rattle.machine_several.specs.Maps.{map_machine}
-use Rattle.machine_several.specs.World.{World as Theory, initial}
-use Rattle.machine_several.proofs.Alone.{own_proposed, alone_proposal}
-use Rattle.machine_several.proofs.Counts.{counts}
-use Rattle.machine_several.proofs.Steps.{runs_trans, decided_up}
+use Rattle.machine.specs.Maps.{map_machine}
+use Rattle.machine.specs.World.{World as Theory, initial}
+use Rattle.machine.proofs.Alone.{own_proposed, alone_proposal}
+use Rattle.machine.proofs.Counts.{counts}
+use Rattle.machine.proofs.Steps.{runs_trans, decided_up}
 use Rattle.join_several.specs.Stands.{conf, RoleStands, Stands}
 use Rattle.together.specs.House.{pick, or, every, any, those, same, propose, Applied, Far, got_to, far_after, nth_value, by_order}
 use Rattle.together.specs.Promise.{last_since, are_bytes, said, Ran, runs, Machine, machine_at, set_machine, World, world, Flown, says, to_whom, event_for, before, thing_ran, rounds, enough_up, all_got, most_applied, proposing, Takes, Calm}
 use Rattle.together_several.specs.Entry.{own}
+use Rattle.whole_several.proofs.Mails.{no_way}
 use Rattle.whole_several.proofs.Joined.{Joined}
 use Rattle.whole_several.proofs.Moved.{Became, became_now}
 use Rattle.whole.proofs.Orders.{nth_last}
-use Rattle.whole_several.proofs.Made.{begins_at}
 use Rattle.whole_several.proofs.Sent.{agrees_self}
 use Rattle.whole_several.proofs.Things.{enough, full_why, taken_became, taken_over}
 use Rattle.whole_several.proofs.Lone.{is_leader, Leads}
@@ -154,7 +155,7 @@ module _ (ps : List (List ℕ)) (fs : List Flown) (k : ℕ) (x : Machine) (ds : 
         let more : many < length (decided (then.memory 0)) = omega (arith, ap (λ (vs : List ℕ). length vs) decided_then, length_push values_now w.proposals) in
         let ordered = decided_up (conf 1) then 0 (runs_trans (conf 1) initial w then z.joined.reach became.moved.path) became.moved.this_up in
         let there : get_or then.order many 0 ≡ length ps =
-        sym (begins_at (decided (then.memory 0)) then.order many ordered more)
+        sym (begins_at 0 (decided (then.memory 0)) then.order many more ordered)
         ∙ (ap (λ (vs : List ℕ). get_or vs many 0) decided_then ∙ (get_or_push values_now w.proposals 0 many refl ∙ sym z.joined.proposals)) in
         ap (λ (i : ℕ). nth_value (ps ++ v ∷ []) (get_or then.order i 0)) at ∙ (ap (nth_value (ps ++ v ∷ [])) there ∙ nth_last ps v)
 
@@ -215,9 +216,6 @@ module _ (ps : List (List ℕ)) (fs : List Flown) where
             (leader_got (k + 10) t.x₁ t.ds₁ t.w₁ o (most_applied (alone ps fs x o ds)) t.lives t.leads (omega (arith, most_of_one ps fs k x ds w z, t.order))),
         λ room. subst (λ (v : World). Takes own enough v) (sym t.is) (takes ps fs (k + 10) t.x₁ t.ds₁ t.w₁ t.lives (omega arith) t.leads room o),
       )
-
-no_way : {A : Type 0} → ◌≡◌ {A = ℕ} 0 1 → A
-no_way e = absurd (omega arith)
 
 calm_world : (k : ℕ) (ms : List Machine) (fs : List Flown) (ps : List (List ℕ)) (o : List ℕ) (ds : List Applied) (w : Theory) → k ≤ 4294967296 → Joined 1 k (world ms fs ps o ds) w →
     Calm own (world ms fs ps o ds)

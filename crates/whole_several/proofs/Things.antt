@@ -20,13 +20,13 @@ use Rattle.protocol.specs.Lists.{upd, In, All, Begins}
 use Rattle.protocol.specs.Log.{decisions}
 use Rattle.protocol.proofs.Updates.{upd_same, upd_other}
 use Rattle.machine.specs.Machine.{Machine as Model, of_term, tick as model_tick, receive, Input, event, proposal, restart, decided}
-use Rattle.machine_several.specs.Step.{step}
-use Rattle.machine_several.specs.Maps.{map_log, map_persistent, map_machine, map_outcome}
-use Rattle.machine_several.proofs.MapLogs.{log_length, decisions_map}
-use Rattle.machine_several.specs.World.{World as Theory, Mail, mail, early, Item, power as model_power, input, Possible, Allowed, proposals_after, next as next_world, Reachable}
-use Rattle.machine_several.proofs.Terms.{TermsBelow, terms_next}
-use Rattle.machine_several.proofs.Steps.{runs_one, runs_none, runs_trans, order_grows, decided_stable}
-use Rattle.machine_several.proofs.Counts.{counts}
+use Rattle.machine.specs.Step.{step}
+use Rattle.machine.specs.Maps.{map_log, map_persistent, map_machine, map_outcome}
+use Rattle.machine.proofs.MapLogs.{log_length, decisions_map}
+use Rattle.machine.specs.World.{World as Theory, Mail, mail, early, Item, power as model_power, input, Possible, Allowed, proposals_after, next as next_world, Reachable}
+use Rattle.machine.proofs.Terms.{TermsBelow, terms_next}
+use Rattle.machine.proofs.Steps.{runs_one, runs_none, runs_trans, order_grows, decided_stable}
+use Rattle.machine.proofs.Counts.{counts}
 use Rattle.join_several.specs.Stands.{conf}
 use Rattle.join_several.specs.Does.{Does}
 use Rattle.join_several.proofs.Outs.{log_long}
@@ -41,7 +41,7 @@ use Rattle.whole.proofs.Plans.{end_either, runs_event}
 use Rattle.whole.proofs.Orders.{same_self}
 use Rattle.whole_several.proofs.Smalls.{bytes_from}
 use Rattle.whole_several.proofs.Steady.{kept_powered, kept_ticked, kept_taken, kept_received}
-use Rattle.whole_several.proofs.Acts.{Fit, rest, go_done, own_planned}
+use Rattle.whole_several.proofs.Acts.{Fit, rest, go_done, own_planned, own_next}
 use Rattle.whole_several.proofs.Joined.{Agrees, Going, Rests, Safe, Carried, Joined}
 use Rattle.whole_several.proofs.Moved.{Moved, Became, agrees_push, safe_later}
 use Rattle.whole_several.proofs.Sent.{as_wire, agrees_self}
@@ -141,10 +141,6 @@ on_how_far m = refl
 pub on_propose : (m v : List ℕ) (p : Result (List ℕ) Refusal) → proposed m v ≡ p → own.step m (said (propose v)) ≡ after_proposal m p
 unfolding own own_step
 on_propose m v p e = ap (after_proposal m) e
-
-on_next : (m : List ℕ) → own.step m next ≡ go_on m
-unfolding own own_step
-on_next m = refl
 
 -- a letter of none of the others
 received_none : (m : List ℕ) (f : ℕ) (l : Message) → another (loaded m) f ≡ false → received_from_another m f (some l) ≡ m
@@ -364,7 +360,7 @@ module _ (n k : ℕ) (v : World) (w : Theory) (j : Joined n k v w) (low : k ≤ 
   acting a ss y = one_act (λ m₂ s₁ fs₁ ds₂ ss₁. runs a own m₂ s₁ next fs₁ ds₂ ss₁) x.stable [] [] ss y.memory y.act
 
   still_now : own.step x.memory next ≡ answer x.memory done
-  still_now = on_next x.memory ∙ go_done x.memory fit_now.long at_rest.quiet.settled at_rest.quiet.none_due at_rest.all
+  still_now = own_next x.memory ∙ go_done x.memory fit_now.long at_rest.quiet.settled at_rest.quiet.none_due at_rest.all
 
   shown_cut : runs 1 own x.memory x.stable (said how_far) [] [] [] ≡ ran x.memory x.stable [] [] ((loaded x.memory).since.0 ∷ []) 1000
   unfolding runs one_act
@@ -439,7 +435,7 @@ module _ (n k : ℕ) (v : World) (w : Theory) (j : Joined n k v w) (low : k ≤ 
       m₂ = taken x.memory (loaded x.memory) q
 
       takes : own.step x.memory (said (propose q)) ≡ own.step m₂ next
-      takes = on_propose x.memory q (Ok m₂) e ∙ sym (on_next m₂)
+      takes = on_propose x.memory q (Ok m₂) e ∙ sym (own_next m₂)
 
       take_so : (g : ℕ → List ℕ) → Agrees g ps₁ → Does n h x.memory m₂ (map_machine g (w.memory h)) (map_outcome g (step (conf n) h (w.memory h) (proposal w.proposals)))
       take_so g a = propose_does n h j.some_are j.few there w j.reach up ps x.memory at_rest.going.means at_rest.quiet q j.proposals leads fits (bytes_from q bytes) g a (more g a)

@@ -1,40 +1,24 @@
 -- What is decided in a memory is what the machine that it stands for holds for decided.
-use Rattle.std.proofs.Common.{◌≡◌, ℕ, ◌<◌, List, [], ◌∷◌, map, length, get_or, take, sym, refl, ap, ◌∙◌, arith}
-use mathlib.Core.Option.{Option, none, some}
+use Rattle.std.proofs.Common.{◌≡◌, ℕ, ◌<◌, List, [], map, length, get_or, take, sym, ap, ◌∙◌, arith}
 use Rattle.std.proofs.lemmas.List.{length-map, get_or-map}
 use Rattle.raft_log.specs.Values.{value_at}
-use Rattle.raft_log.specs.Block.{Entry as Row}
-use Rattle.raft_log.specs.View.{log_of, Tidy, decisions as row_decisions, with_content as row_content}
+use Rattle.raft_log.specs.View.{log_of, Tidy, decisions as row_decisions}
 use Rattle.raft_log.specs.Entries.{commit_index, decided as decided_number}
 use Rattle.raft_log.proofs.LogLaws.{commit_most}
 use Rattle.raft_log.proofs.ViewLaws.{number_counts, decision_at}
-use Rattle.protocol.specs.Log.{with_content, decisions}
+use Rattle.protocol.specs.Log.{decisions}
 use Rattle.machine.specs.Machine.{Machine, decided}
-use Rattle.machine_several.specs.Maps.{map_log}
-use Rattle.machine_several.proofs.MapLogs.{map_take}
-use Rattle.machine_several.proofs.Maps.{decided_map}
-use Rattle.join_several.specs.Stands.{lift_entry, lift_log}
-
--- what the entries of a memory hold, seen as entries of the theory
-pub lift_decisions : (rows : List Row) → decisions (lift_log rows) ≡ row_decisions rows
-unfolding lift_log decisions row_decisions
-lift_decisions [] = refl
-lift_decisions (e ∷ es) = with_one e.content (lift_decisions es)
-  where
-    with_one : (o : Option (List ℕ)) {xs ys : List (List ℕ)} → xs ≡ ys → with_content o xs ≡ row_content o ys
-    with_one none q = q
-    with_one (some v) q = ap (λ (vs : List (List ℕ)). v ∷ vs) q
-
-pub lift_take : (k : ℕ) (rows : List Row) → take k (lift_log rows) ≡ lift_log (take k rows)
-unfolding lift_log
-lift_take k rows = map_take lift_entry k rows
+use Rattle.machine.specs.Maps.{map_log}
+use Rattle.machine.proofs.Maps.{decided_map}
+use Rattle.join_several.specs.Stands.{lift_log}
+use Rattle.join_several.proofs.Lifts.{lift_take, lift_decisions}
 
 module _ (m : List ℕ) (tidy : Tidy m) (x : Machine ℕ) (g : ℕ → List ℕ) (log : lift_log (log_of m) ≡ map_log g x.log) (commit : commit_index m ≡ x.commit) where
   decisions_are : row_decisions (take (commit_index m) (log_of m)) ≡ map g (decided x)
   unfolding decided
   decisions_are =
-      sym (lift_decisions (take (commit_index m) (log_of m)))
-      ∙ (ap decisions (sym (lift_take (commit_index m) (log_of m)))
+      lift_decisions (take (commit_index m) (log_of m))
+      ∙ (ap decisions (lift_take (commit_index m) (log_of m))
       ∙ ((λ i. decisions (take (commit i) (log i))) ∙ decided_map g x))
 
   -- as many are decided

@@ -1,7 +1,7 @@
 -- Whatever happens leaves the world joined with one of the theory.
 use Rattle.std.proofs.Common.{◌≡◌, ℕ, suc, ◌<◌, ◌≤◌, Bool, true, false, not, ◌&&◌, ltb, leb, length, arith}
 use Rattle.std.proofs.lemmas.Bool.{ltb-true, and_parts, not-true}
-use Rattle.machine_several.specs.World.{World as Theory}
+use Rattle.machine.specs.World.{World as Theory}
 use Rattle.together.specs.House.{every, propose, how_far, small_command}
 use Rattle.together.specs.Promise.{machine_at, flown_at, World, Thing, power, says, delivers, ticks, proper, thing_ran}
 use Rattle.together_several.specs.Entry.{own}

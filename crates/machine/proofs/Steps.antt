@@ -4,10 +4,9 @@ use Rattle.protocol.specs.Lists.{All, Apart, Begins}
 use Rattle.protocol.specs.Log.{decisions}
 use Rattle.protocol.proofs.Updates.{upd_same}
 use Rattle.machine.specs.Machine.{Conf, Machine, Input, restart, decided}
-use Rattle.machine_several.specs.Step.{step}
-use Rattle.machine_several.specs.World.{World, Fate, whole, early, late, Item, input, Possible, Allowed, proposals_after, next, run, AllAllowed, initial, At, RunsTo, Reachable}
-use Rattle.machine_several.proofs.Counts.{counts}
-use Rattle.machine_several.proofs.Theorems.{reachable_refines, global_order, order_once, logs_stay_small}
+use Rattle.machine.specs.Step.{step}
+use Rattle.machine.specs.World.{World, Fate, whole, early, late, Item, input, Possible, Allowed, next, run, AllAllowed, initial, At, RunsTo, Reachable}
+use Rattle.machine.proofs.Theorems.{reachable_refines, global_order, order_once, logs_stay_small}
 
 -- one item more
 pub runs_one : (c : Conf) (w : World) (a : Item) → Allowed c w a → RunsTo c w (next c w a)
@@ -60,9 +59,6 @@ commit_within c w j m k (inr h) =
 pub commit_up : (c : Conf) (w : World) (j : ℕ) → Reachable c w → w.up j ≡ true → (w.memory j).commit ≤ length (w.memory j).log
 commit_up c w j k u = commit_within c w j (w.memory j) k (inl (u, refl))
 
-pub commit_stable : (c : Conf) (w : World) (j : ℕ) → Reachable c w → (w.stable j).commit ≤ length (w.stable j).log
-commit_stable c w j k = commit_within c w j (restart (w.stable j)) k (inr refl)
-
 -- a machine's input may always be settled; then the machine stands in the next world
 module _ (c : Conf) (w : World) (j : ℕ) (e : Input ℕ) (k : Reachable c w) (u : w.up j ≡ true) (p : Possible w j e) where
   settled_reachable : Reachable c (next c w (input j e (whole true)))
@@ -73,10 +69,6 @@ module _ (c : Conf) (w : World) (j : ℕ) (e : Input ℕ) (k : Reachable c w) (u
 
   pub step_small : (length (decisions (step c j (w.memory j) e).now.log) ≤ c.room) × (length (step c j (w.memory j) e).now.log ≤ 2 * c.room + 1)
   step_small = logs_stay_small c (next c w (input j e (whole true))) j (step c j (w.memory j) e).now settled_reachable settled_at
-
-  pub step_counts : (length (decisions (step c j (w.memory j) e).now.log) ≤ proposals_after w.proposals e)
-      × (length (step c j (w.memory j) e).now.log ≤ 2 * length (decisions (step c j (w.memory j) e).now.log) + 1)
-  step_counts = counts c (next c w (input j e (whole true))) j (step c j (w.memory j) e).now settled_reachable settled_at
 
   pub step_commit : (step c j (w.memory j) e).now.commit ≤ length (step c j (w.memory j) e).now.log
   step_commit = commit_within c (next c w (input j e (whole true))) j (step c j (w.memory j) e).now settled_reachable settled_at

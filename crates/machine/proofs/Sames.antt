@@ -11,13 +11,13 @@ use Rattle.protocol.proofs.Lists.{begins_length}
 use Rattle.protocol.proofs.Updates.{upd_same}
 use Rattle.protocol.proofs.Grows.{matching_grows}
 use Rattle.protocol.proofs.Runs.{moves_grow}
-use Rattle.machine.specs.Machine.{Conf, Machine, Input, restart, decided}
-use Rattle.machine_several.specs.Step.{step}
-use Rattle.machine_several.specs.World.{World, whole, input, Possible, next, At, Reachable}
-use Rattle.machine_several.specs.Fits.{state_of, Refines}
-use Rattle.machine_several.proofs.Agreeing.{matching_agree}
-use Rattle.machine_several.proofs.Steps.{runs_one}
-use Rattle.machine_several.proofs.Theorems.{runs_refine, reachable_refines, at_stable, events_extend}
+use Rattle.machine.specs.Machine.{Conf, Machine, Input, decided}
+use Rattle.machine.specs.Step.{step}
+use Rattle.machine.specs.World.{World, whole, input, Possible, next, At, Reachable}
+use Rattle.machine.specs.Fits.{state_of, Refines}
+use Rattle.machine.proofs.Agreeing.{matching_agree}
+use Rattle.machine.proofs.Steps.{runs_one}
+use Rattle.machine.proofs.Theorems.{runs_refine, reachable_refines, at_stable, events_extend}
 
 -- two logs that match one history, with the same terms at all places, are the same
 pub matching_same : (g : History) (l h : Log ℕ) → Matching g l → Matching g h → length l ≡ length h → ((i : ℕ) → i < length l → term_at l i ≡ term_at h i) → l ≡ h
@@ -50,10 +50,3 @@ same_log c w j e k u p n t =
 pub step_extends : (c : Conf) (w : World) (j : ℕ) (e : Input ℕ) → Reachable c w → w.up j ≡ true → Possible w j e →
     length (decided (w.memory j)) ≤ length (decided (step c j (w.memory j) e).now)
 step_extends c w j e k u p = begins_length (decided (w.memory j)) (decided (step c j (w.memory j) e).now) (events_extend c w j e k u p)
-
--- commit is within the log, in memory and in what is stable
-pub commit_long : (c : Conf) (w : World) (j : ℕ) → Reachable c w → w.up j ≡ true → (w.memory j).commit ≤ length (w.memory j).log
-commit_long c w j k u = ((reachable_refines c w k).refines.memory_fits j u).commit.long
-
-pub commit_long_stable : (c : Conf) (w : World) (j : ℕ) → Reachable c w → (restart (w.stable j)).commit ≤ length (restart (w.stable j)).log
-commit_long_stable c w j k = ((reachable_refines c w k).refines.stable_fits j).commit.long

@@ -1,5 +1,5 @@
 -- A machine alone: it is all of the majority, so what it has is committed at once, and it sends nothing. Assumes nothing.
-use Rattle.std.proofs.Common.{◌≡◌, ℕ, zero, suc, ◌+◌, ◌*◌, ◌<◌, ◌≤◌, Bool, true, false, ◌&&◌, eqb, ltb, leb, List, [], ◌∷◌, ◌++◌, length, sym, refl, ap, ◌∙◌, subst, inl, inr, arith}
+use Rattle.std.proofs.Common.{◌≡◌, ℕ, zero, suc, ◌*◌, ◌<◌, ◌≤◌, Bool, true, false, ◌&&◌, eqb, ltb, leb, List, [], ◌∷◌, ◌++◌, length, refl, ap, ◌∙◌, inl, inr, arith}
 use mathlib.Core.Option.{some}
 use Rattle.std.proofs.lemmas.Bool.{and_from, and_cases, lt-ltb, le-ltb, ltb-false, le-leb, eq-eqb, eqb-false}
 use Rattle.protocol.specs.Lists.{pick, upd}
@@ -8,7 +8,7 @@ use Rattle.protocol.specs.History.{count, owner as owner_of}
 use Rattle.protocol.proofs.Updates.{pick_both, upd_same}
 use Rattle.protocol.proofs.Logs.{term_same, push_length, push_last, last_some, renew_index_is, renew_length, renew_last}
 use Rattle.machine.specs.Machine.{Conf, Machine, machine, Role, follower, candidate, leader, Letter, here, Out, out, Outcome, outcome}
-use Rattle.machine_several.specs.Step.{owner, is_majority, to_others, broadcast, request_of, append_at, majority_index, maybe_commit, new_leader, become_leader, as_candidate, poll, as_follower, enter, ticked, reminder, tick_election, tick_as, on_tick, proposed, propose_as, append_proposal, on_proposal}
+use Rattle.machine.specs.Step.{owner, is_majority, to_others, broadcast, append_at, majority_index, maybe_commit, new_leader, become_leader, poll, as_follower, enter, ticked, reminder, tick_election, tick_as, on_tick, proposed, propose_as, append_proposal, on_proposal}
 
 pick_true : {A : Type 0} (b : Bool) (x y : A) → b ≡ true → pick b x y ≡ x
 pick_true b x y e = ap (λ (z : Bool). pick z x y) e
@@ -27,13 +27,13 @@ module _ (c : Conf) (one : c.size ≡ 1) where
   unfolding owner_of
   owner_alone t = ap (λ (n : ℕ). owner_of n t) one ∙ omega arith
 
-  majority_alone : (f : ℕ → Bool) → f 0 ≡ true → is_majority c f ≡ true
+  pub majority_alone : (f : ℕ → Bool) → f 0 ≡ true → is_majority c f ≡ true
   unfolding is_majority count
   majority_alone f e =
       let k : count f c.size ≡ 1 = ap (count f) one ∙ ap (λ (b : Bool). pick b 1 0) e in
       lt-ltb c.size (2 * count f c.size) (omega (arith, one, k))
 
-  index_alone : (a : ℕ → ℕ) (k : ℕ) → k ≤ a 0 → majority_index c a k ≡ k
+  pub index_alone : (a : ℕ → ℕ) (k : ℕ) → k ≤ a 0 → majority_index c a k ≡ k
   unfolding majority_index
   index_alone a zero h = refl
   index_alone a (suc k) h = pick_true _ (suc k) (majority_index c a k) (majority_alone (λ j. leb (suc k) (a j)) (le-leb (suc k) (a 0) h))
@@ -52,34 +52,6 @@ module _ (c : Conf) (one : c.size ≡ 1) where
   broadcast_alone : {A : Type 0} (f : ℕ → Letter A) → broadcast c 0 f ≡ []
   broadcast_alone f = ap (to_others 0 f) one ∙ to_nobody f
 
--- a tick that keeps the term keeps commit: this is so in any cluster
-poll_term : {A : Type 0} (c : Conf) (id : ℕ) (m : Machine A) (v : ℕ → Bool) (o : List (Out A)) → (poll c id m v o).now.term ≡ m.term
-unfolding poll become_leader
-poll_term {A} c id m v o =
-    pick_both (λ (d : Outcome A). d.now.term ≡ m.term) (is_majority c v && ltb (m.elapsed + 2) c.wait) (become_leader c id m) (outcome (as_candidate m v) o)
-    (λ _. refl) (λ _. refl)
-
-enter_term : {A : Type 0} (c : Conf) (id : ℕ) (m : Machine A) (t : ℕ) (o : List (Out A)) → (enter c id m t o).now.term ≡ t
-unfolding enter
-enter_term {A} c id m t o =
-    pick_both (λ (d : Outcome A). d.now.term ≡ t) (eqb (owner c t) id) (poll c id (as_follower m t) (λ j. eqb j id) (broadcast c id (λ _. request_of (as_follower m t))))
-    (outcome (as_follower m t) o) (λ _. poll_term c id (as_follower m t) (λ j. eqb j id) (broadcast c id (λ _. request_of (as_follower m t)))) (λ _. refl)
-
-election_kept : {A : Type 0} (c : Conf) (id : ℕ) (m : Machine A) → m.term ≡ (tick_election c id m).now.term → m.commit ≡ (tick_election c id m).now.commit
-election_kept {A} c id m =
-    pick_both (λ (d : Outcome A). m.term ≡ d.now.term → m.commit ≡ d.now.commit) (ltb (suc m.elapsed) c.wait) (outcome (ticked m) (reminder c id m m.role))
-    (enter c id m (suc m.term) (broadcast c id (λ _. here (suc m.term)))) (λ _ _. refl)
-    (λ _ e. absurd (omega (arith, e, enter_term c id m (suc m.term) (broadcast c id (λ _. here (suc m.term))))))
-
-tick_kept : {A : Type 0} (c : Conf) (id : ℕ) (m : Machine A) (r : Role) → m.term ≡ (tick_as c id m r).now.term → m.commit ≡ (tick_as c id m r).now.commit
-tick_kept c id m follower e = election_kept c id m e
-tick_kept c id m (candidate v) e = election_kept c id m e
-tick_kept c id m (leader a b) e = refl
-
-pub alone_tick_kept : {A : Type 0} (c : Conf) (id : ℕ) (m : Machine A) → m.term ≡ (on_tick c id m).now.term → m.commit ≡ (on_tick c id m).now.commit
-unfolding on_tick
-alone_tick_kept c id m e = tick_kept c id m m.role e
-
 -- the log that a machine leads its next term with, when it is alone, and the machine then
 abbrev pub own_log : {A : Type 0} → Machine A → Log A
 own_log m = renew (suc m.term) m.log
@@ -94,37 +66,11 @@ own_extended m v = m.log ++ entry m.term (some v) ∷ []
 abbrev pub own_proposed : {A : Type 0} → Machine A → A → (ℕ → ℕ) → (ℕ → ℕ) → Machine A
 own_proposed m v a b = machine m.term (leader (upd a 0 (length (own_extended m v))) b) m.heard m.elapsed (own_extended m v) (length (own_extended m v))
 
--- d leads the term after m's, and holds all of its log for committed
-pub record AloneLeads {A : Type 0} (m d : Machine A) : Type 0 where
-  pub acked : ℕ → ℕ
-  pub nexts : ℕ → ℕ
-  pub role : d.role ≡ leader acked nexts
-  pub term : d.term ≡ suc m.term
-  pub log : d.log ≡ renew (suc m.term) m.log
-  pub commit : d.commit ≡ length (renew (suc m.term) m.log)
-
-renew_ends : {A : Type 0} (t : ℕ) (l : Log A) → last_term (renew t l) ≡ t
+pub renew_ends : {A : Type 0} (t : ℕ) (l : Log A) → last_term (renew t l) ≡ t
 renew_ends t l = last_some (renew t l) _ (renew_length t l) ∙ term_same _ _ (renew_last t l)
 
-push_ends : {A : Type 0} (t : ℕ) (l : Log A) (v : A) → last_term (l ++ entry t (some v) ∷ []) ≡ t
+pub push_ends : {A : Type 0} (t : ℕ) (l : Log A) (v : A) → last_term (l ++ entry t (some v) ∷ []) ≡ t
 push_ends t l v = last_some (l ++ entry t (some v) ∷ []) (length l) (push_length l (entry t (some v))) ∙ term_same _ _ (push_last l (entry t (some v)) (length l) refl)
-
--- a proposal is refused by one that does not lead, and when the log is full: this is so in any cluster
-refuse_as : {A : Type 0} (c : Conf) (id : ℕ) (m : Machine A) (v : A) (r : Role) → ((a b : ℕ → ℕ) → r ≡ leader a b → ⊥) → propose_as c id m v r ≡ outcome m []
-refuse_as c id m v follower h = refl
-refuse_as c id m v (candidate w) h = refl
-refuse_as c id m v (leader a b) h = absurd (h a b refl)
-
-pub other_refuses : {A : Type 0} (c : Conf) (id : ℕ) (m : Machine A) (v : A) → ((a b : ℕ → ℕ) → m.role ≡ leader a b → ⊥) → on_proposal c id m v ≡ outcome m []
-unfolding on_proposal append_proposal
-other_refuses {A} c id m v h =
-    pick_both (λ (d : Outcome A). d ≡ outcome m []) (ltb (length (decisions m.log)) c.room) (append_proposal c id m v) (outcome m [])
-    (λ _. refuse_as c id m v m.role h) (λ _. refl)
-
-pub full_refuses : {A : Type 0} (c : Conf) (id : ℕ) (m : Machine A) (v : A) → c.room ≤ length (decisions m.log) → on_proposal c id m v ≡ outcome m []
-unfolding on_proposal
-full_refuses c id m v h =
-    pick_false (ltb (length (decisions m.log)) c.room) (append_proposal c id m v) (outcome m []) (le-ltb (length (decisions m.log)) c.room h)
 
 -- who does not lead waits or stands
 other_tick : {A : Type 0} (c : Conf) (m : Machine A) (r : Role) → ((a b : ℕ → ℕ) → r ≡ leader a b → ⊥) → tick_as c 0 m r ≡ tick_election c 0 m
@@ -187,11 +133,6 @@ module _ (c : Conf) (one : c.size ≡ 1) (ten : c.wait ≡ 10) where
       on_tick c 0 m ≡ outcome (own_leader m) []
   unfolding on_tick
   alone_elected m other h b = other_tick c m m.role other ∙ lead_election m h b
-
-  pub alone_leads : {A : Type 0} (m : Machine A) → ((a b : ℕ → ℕ) → m.role ≡ leader a b → ⊥) → 10 ≤ suc m.elapsed → m.commit ≤ length m.log → AloneLeads m (on_tick c 0 m).now
-  alone_leads {A} m other h b =
-      subst (λ (d : Outcome A). AloneLeads m d.now) (sym (alone_elected m other h b))
-      (record { acked = upd (λ _. 0) 0 (length (own_log m)); nexts = λ _. length (own_log m); role = refl; term = refl; log = refl; commit = refl })
 
   -- whatever a tick does, nothing is sent
   election_silent : {A : Type 0} (m : Machine A) → (tick_election c 0 m).sent ≡ []

@@ -8,9 +8,9 @@ use Rattle.protocol.specs.State.{State, Sound, PartOf}
 use Rattle.protocol.proofs.Lists.{all_in}
 use Rattle.protocol.proofs.Logs.{term_same}
 use Rattle.machine.specs.Machine.{Conf, append}
-use Rattle.machine_several.specs.World.{mail, World, Reachable}
-use Rattle.machine_several.specs.Fits.{TrueMail, state_of}
-use Rattle.machine_several.proofs.Theorems.{reachable_refines}
+use Rattle.machine.specs.World.{mail, World, Reachable}
+use Rattle.machine.specs.Fits.{TrueMail, state_of}
+use Rattle.machine.proofs.Theorems.{reachable_refines}
 
 -- two logs that match have the same entry at a place where they have the same term
 pub matching_agree : (g : History) (l h : Log ℕ) (i : ℕ) → Matching g l → Matching g h → i < length l → i < length h → term_at l i ≡ term_at h i → entry_at l i ≡ entry_at h i

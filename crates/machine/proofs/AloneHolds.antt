@@ -1,28 +1,28 @@
 -- A machine alone has in its log all that was ever decided, and while it leads it holds all of its log for decided. Assumes nothing.
-use Rattle.std.proofs.Common.{◌≡◌, ℕ, zero, suc, ◌+◌, ◌*◌, ◌<◌, ◌≤◌, Bool, true, false, ◌&&◌, eqb, ltb, leb, List, [], ◌∷◌, ◌++◌, length, take, sym, refl, ap, ◌∙◌, subst, inl, inr, arith}
+use Rattle.std.proofs.Common.{◌≡◌, ℕ, suc, ◌+◌, ◌<◌, ◌≤◌, Bool, true, false, ◌&&◌, eqb, ltb, leb, List, [], ◌∷◌, ◌++◌, length, take, sym, refl, ap, ◌∙◌, subst, inl, inr, arith}
 use mathlib.Core.Option.{some}
 use Rattle.std.proofs.lemmas.List.{take_all}
-use Rattle.std.proofs.lemmas.Bool.{both_ways, cases_Bool, cases_eq, and_parts, and_cases, ltb-true, lt-ltb, ltb-false, le-leb, eqb-false}
+use Rattle.std.proofs.lemmas.Bool.{both_ways, cases_Bool, cases_eq, and_parts, and_cases, ltb-true, ltb-false, eqb-false}
 use Rattle.protocol.specs.Lists.{pick, upd, Begins}
 use Rattle.protocol.specs.Log.{entry, Log, term_before, last_term, renew, Covers, decisions}
 use Rattle.protocol.specs.History.{History, count, Majority, Committed, Front, Decided}
 use Rattle.protocol.specs.Invariant.{Inv, Elections}
 use Rattle.protocol.specs.State.{State, Sound}
-use Rattle.protocol.proofs.Lists.{begins_length}
 use Rattle.protocol.proofs.Updates.{pick_both, upd_all, upd_same}
-use Rattle.protocol.proofs.Logs.{term_same, push_length, push_last, last_some, renew_length, renew_last, covers_self, covers_content}
+use Rattle.protocol.proofs.Logs.{covers_self, covers_content}
 use Rattle.protocol.proofs.Decisions.{decisions_take, decisions_same}
 use Rattle.protocol.proofs.States.{acked_front}
 use Rattle.protocol.proofs.Complete.{complete}
 use Rattle.machine.specs.Machine.{Conf, Machine, Role, follower, candidate, leader, Letter, append, request, vote, ack, reject, here, of_term, Out, out, Outcome, outcome, tick, receive, Input, event, proposal, restart, decided}
-use Rattle.machine_several.specs.Step.{owner, is_majority, broadcast, request_of, majority_index, maybe_commit, become_leader, as_candidate, poll, as_follower, enter, ticked, reminder, tick_election, tick_as, on_tick, prev_matches, handle_append, matched, handle_ack, handle_reject, handle_as, handle, handle_old, enter_higher, handle_higher, on_letter, propose_as, append_proposal, on_proposal, step}
-use Rattle.machine_several.specs.World.{World, whole, early, late, Item, power, input, next, run, initial, Reachable}
-use Rattle.machine_several.specs.Fits.{state_of}
-use Rattle.machine_several.proofs.Worlds.{still_up, up_before}
-use Rattle.machine_several.proofs.Theorems.{reachable_refines}
-use Rattle.machine_several.proofs.Steps.{decided_up}
-use Rattle.machine_several.proofs.Sames.{commit_long}
-use Rattle.machine_several.proofs.Safes.{stable_same}
+use Rattle.machine.specs.Step.{owner, is_majority, broadcast, request_of, majority_index, maybe_commit, become_leader, as_candidate, poll, as_follower, enter, ticked, reminder, tick_election, tick_as, on_tick, prev_matches, handle_append, matched, handle_ack, handle_reject, handle_as, handle, handle_old, enter_higher, handle_higher, on_letter, propose_as, append_proposal, on_proposal, step}
+use Rattle.machine.specs.World.{World, whole, early, late, Item, power, input, next, run, initial, Reachable}
+use Rattle.machine.specs.Fits.{state_of}
+use Rattle.machine.proofs.Alone.{index_alone, renew_ends, push_ends}
+use Rattle.machine.proofs.Decided.{none_begins}
+use Rattle.machine.proofs.Worlds.{still_up, up_before}
+use Rattle.machine.proofs.Theorems.{reachable_refines}
+use Rattle.machine.proofs.Steps.{commit_up}
+use Rattle.machine.proofs.Safes.{stable_same}
 
 -- WHAT WAS COMMITTED, one machine alone acknowledged, so its log covers it
 one_acked : (f : ℕ → Bool) → Majority 1 f → f 0 ≡ true
@@ -52,12 +52,8 @@ module _ (n : ℕ) (g : History) (inv : Inv g) (el : Elections n g) (j : ℕ) (s
       subst (λ (ys : List ℕ). Begins ys (decisions s.log)) (sym (f.is ∙ e))
       (subst (λ (l : Log ℕ). Begins (decisions (take f.upto s.log)) (decisions l)) all (decisions_take s.log f.upto (f.upto + length s.log) (omega arith)))
 
-nothing_begins : (xs ys : List ℕ) → xs ≡ [] → Begins xs ys
-unfolding Begins
-nothing_begins xs ys e = (ys, ap (λ (zs : List ℕ). zs ++ ys) e)
-
 order_begins : (n : ℕ) (g : History) (inv : Inv g) (el : Elections n g) (s : State) → n ≡ 1 → Sound n g 0 s → (xs : List ℕ) → Decided n g xs → Begins xs (decisions s.log)
-order_begins n g inv el s one d xs (inl e) = nothing_begins xs (decisions s.log) e
+order_begins n g inv el s one d xs (inl e) = none_begins xs (decisions s.log) e
 order_begins n g inv el s one d xs (inr f) =
     let most : Majority 1 (λ j. ltb f.at (g.acked f.term j)) = subst (λ (k : ℕ). Majority k (λ j. ltb f.at (g.acked f.term j))) one f.done.most in
     acked_begins n g inv el 0 s d xs f (ltb-true f.at (g.acked f.term 0) (one_acked (λ j. ltb f.at (g.acked f.term j)) most))
@@ -90,29 +86,12 @@ commit_stays c t l a k =
     (λ e. omega (arith, ltb-true k (majority_index c a (length l)) (and_parts (ltb k (majority_index c a (length l))) (eqb (term_before l (majority_index c a (length l))) t) e).0))
     (λ _. omega arith)
 
-renew_ends : {A : Type 0} (t : ℕ) (l : Log A) → last_term (renew t l) ≡ t
-renew_ends t l = last_some (renew t l) _ (renew_length t l) ∙ term_same _ _ (renew_last t l)
-
-push_ends : {A : Type 0} (t : ℕ) (l : Log A) (v : A) → last_term (l ++ entry t (some v) ∷ []) ≡ t
-push_ends t l v = last_some (l ++ entry t (some v) ∷ []) (length l) (push_length l (entry t (some v))) ∙ term_same _ _ (push_last l (entry t (some v)) (length l) refl)
-
 -- whatever comes to it, since what it has, more than half of one have
 module _ (c : Conf) (one : c.size ≡ 1) where
-  most_alone : (f : ℕ → Bool) → f 0 ≡ true → is_majority c f ≡ true
-  unfolding is_majority count
-  most_alone f e =
-      let k : count f c.size ≡ 1 = ap (count f) one ∙ ap (λ (b : Bool). pick b 1 0) e in
-      lt-ltb c.size (2 * count f c.size) (omega (arith, one, k))
-
-  index_all : (a : ℕ → ℕ) (k : ℕ) → k ≤ a 0 → majority_index c a k ≡ k
-  unfolding majority_index
-  index_all a zero h = refl
-  index_all a (suc k) h = ap (λ (b : Bool). pick b (suc k) (majority_index c a k)) (most_alone (λ j. leb (suc k) (a j)) (le-leb (suc k) (a 0) h))
-
   commit_all : {A : Type 0} (t : ℕ) (l : Log A) (a : ℕ → ℕ) (k : ℕ) → length l ≤ a 0 → last_term l ≡ t → length l ≤ maybe_commit c t l a k
   unfolding maybe_commit last_term
   commit_all t l a k h e =
-      let x : majority_index c a (length l) ≡ length l = index_all a (length l) h in
+      let x : majority_index c a (length l) ≡ length l = index_alone c one a (length l) h in
       pick_both (λ y. length l ≤ y) (ltb k (majority_index c a (length l)) && eqb (term_before l (majority_index c a (length l))) t) (majority_index c a (length l)) k (λ _. omega (arith, x))
       (λ z. elim (and_cases (ltb k (majority_index c a (length l))) (eqb (term_before l (majority_index c a (length l))) t) z) [
         | inl y ↦ omega (arith, x, ltb-false k (majority_index c a (length l)) y)
@@ -147,7 +126,7 @@ module _ (c : Conf) (one : c.size ≡ 1) where
   tick_full m (candidate v) h = election_full m h
   tick_full m (leader a b) h = h
 
-  append_full : {A : Type 0} (f : ℕ) (m : Machine A) (p q k : ℕ) (es : Log A) → Full (handle_append f m p q k es).now
+  append_full : {A : Type 0} (f : ℕ) (m : Machine A) (p q k : ℕ) (es : Log A) → Full (handle_append c f m p q k es).now
   unfolding handle_append
   append_full {A} f m p q k es = pick_both (λ (d : Outcome A). Full d.now) (prev_matches m.log p q) _ _ (λ _. tt) (λ _. tt)
 
@@ -246,15 +225,8 @@ module _ (c : Conf) (w : World) (one : c.size ≡ 1) (k : Reachable c w) (u : w.
   alone_commit =
       let h : length (w.memory 0).log ≤ (w.memory 0).commit =
       subst (λ (r : Role). FullAs r (length (w.memory 0).log) (w.memory 0).commit) e (reachable_full c one w k 0 refl u) in
-      omega (arith, h, commit_long c w 0 k u)
+      omega (arith, h, commit_up c w 0 k u)
 
   pub alone_decided : decided (w.memory 0) ≡ decisions (w.memory 0).log
   unfolding decided
   alone_decided = ap decisions (take_all (w.memory 0).commit (w.memory 0).log (omega (arith, alone_commit)))
-
-  pub alone_has_all : Begins w.order (decided (w.memory 0))
-  alone_has_all = subst (λ (xs : List ℕ). Begins w.order xs) (sym alone_decided) (alone_order_up c w one k u)
-
-  pub alone_has_order : length w.order ≡ length (decided (w.memory 0))
-  alone_has_order =
-      omega (arith, begins_length w.order (decided (w.memory 0)) alone_has_all, begins_length (decided (w.memory 0)) w.order (decided_up c w 0 k u))

@@ -6,9 +6,10 @@ use Rattle.protocol.specs.History.{owner}
 use Rattle.protocol.proofs.Updates.{pick_both, upd_all}
 use Rattle.protocol.proofs.Lists.{all_map, all_both, all_take, all_in}
 use Rattle.machine.specs.Machine.{Conf, Machine, Role, follower, candidate, leader, Letter, append, request, vote, ack, reject, here, of_term, Out, out, Outcome, outcome, tick, receive, Input, event, proposal, restart}
-use Rattle.machine_several.specs.Step.{is_majority, broadcast, request_of, append_at, maybe_commit, leading, become_leader, as_candidate, poll, as_follower, enter, ticked, reminder, tick_election, tick_as, on_tick, prev_matches, handle_append, matched, next_after, handle_ack, handle_reject, handle_as, handle, handle_old, or_else, enter_higher, handle_higher, on_letter, propose_as, append_proposal, on_proposal, step}
-use Rattle.machine_several.specs.World.{Mail, mail, post, World, whole, early, late, Item, power, input, Possible, Allowed, settled, next, initial}
-use Rattle.machine_several.proofs.Fits.{all_others}
+use Rattle.machine.specs.Step.{is_majority, broadcast, request_of, append_at, maybe_commit, leading, become_leader, as_candidate, poll, as_follower, enter, ticked, reminder, tick_election, tick_as, on_tick, prev_matches, handle_append, matched, next_after, handle_ack, handle_reject, handle_as, handle, handle_old, enter_higher, handle_higher, on_letter, propose_as, append_proposal, on_proposal, step}
+use Rattle.machine.specs.World.{Mail, mail, post, World, whole, early, late, Item, power, input, Possible, Allowed, settled, next, initial}
+use Rattle.machine.proofs.Fits.{all_others}
+use Rattle.machine.proofs.Handlers.{else_all}
 
 -- no term is above k: of a machine, of what a stop leaves, of a letter
 pub record TermsBelow (w : World) (k : ℕ) : Type 0 where
@@ -72,7 +73,7 @@ module _ (c : Conf) (j k : ℕ) where
   tick_slow m (leader a n) b = let b' : m.term ≤ k = omega arith in record { term = b'; sent = low_to_all _ (λ i. b') }
 
   -- a letter of the own term
-  append_slow : (f : ℕ) (m : Machine ℕ) (p q n : ℕ) (es : Log ℕ) → m.term ≤ k → Slow k (handle_append f m p q n es)
+  append_slow : (f : ℕ) (m : Machine ℕ) (p q n : ℕ) (es : Log ℕ) → m.term ≤ k → Slow k (handle_append c f m p q n es)
   unfolding handle_append
   append_slow f m p q n es b = pick_both (Slow k) (prev_matches m.log p q) _ _ (λ _. record { term = b; sent = (b, tt) }) (λ _. record { term = b; sent = (b, tt) })
 
@@ -127,16 +128,12 @@ module _ (c : Conf) (j k : ℕ) where
   old_slow f m (here t) b = (b, tt)
 
   -- a letter of any term
-  else_slow : (xs ys : List (Out ℕ)) → All (Low k) xs → All (Low k) ys → All (Low k) (or_else xs ys)
-  else_slow [] ys p q = q
-  else_slow (x ∷ xs) ys p q = p
-
   higher_slow : (f : ℕ) (m : Machine ℕ) (l : Letter ℕ) → of_term l ≤ k → Slow k (handle_higher c j f m l)
   higher_slow f m l b =
       let m1 = (enter_higher c j m (of_term l)).now in
       let r = enter_slow m (of_term l) (out (owner c.size (of_term l)) (here (of_term l)) ∷ []) b (b, tt) in
       let s = handle_slow f m1 m1.role l r.term in
-      record { term = s.term; sent = else_slow _ _ s.sent r.sent }
+      record { term = s.term; sent = else_all (Low k) _ _ s.sent r.sent }
 
   letter_slow : (f : ℕ) (m : Machine ℕ) (l : Letter ℕ) → m.term ≤ k → of_term l ≤ k → Slow k (on_letter c j f m l)
   unfolding on_letter

@@ -1,5 +1,5 @@
 -- If more than half are up and in one term, its leader has all that was ever held for decided. Assumes nothing.
-use Rattle.std.proofs.Common.{◌≡◌, ℕ, ◌≤◌, Bool, true, ltb, List, [], ◌++◌, length, take, sym, ap, ◌∙◌, subst, inl, inr, arith}
+use Rattle.std.proofs.Common.{◌≡◌, ℕ, ◌≤◌, Bool, true, ltb, List, length, take, sym, ap, ◌∙◌, subst, inl, inr, arith}
 use Rattle.std.proofs.lemmas.List.{take_all}
 use Rattle.std.proofs.lemmas.Bool.{ltb-true}
 use Rattle.protocol.specs.Lists.{Begins}
@@ -8,23 +8,17 @@ use Rattle.protocol.specs.History.{Majority, Committed, Front, Decided}
 use Rattle.protocol.specs.State.{State}
 use Rattle.protocol.specs.Cluster.{Cluster, Safe}
 use Rattle.protocol.specs.Letters.{Commits}
-use Rattle.protocol.proofs.Lists.{begins_length}
 use Rattle.protocol.proofs.Logs.{covers_content}
 use Rattle.protocol.proofs.Quorums.{majorities_meet}
 use Rattle.protocol.proofs.Commits.{lead_covers}
-use Rattle.machine.specs.Machine.{Conf, Role, leader, decided}
-use Rattle.machine_several.specs.Step.{is_majority}
-use Rattle.machine_several.specs.World.{World, Reachable}
-use Rattle.machine_several.specs.Fits.{LeaderFits, RoleFits, Refines}
-use Rattle.machine_several.proofs.Fits.{majority_true}
-use Rattle.machine_several.proofs.Decided.{take_begins}
-use Rattle.machine_several.proofs.Theorems.{reachable_refines}
-use Rattle.machine_several.proofs.Steps.{decided_up}
-
--- every list begins with the empty one
-none_begins : (xs ys : List ℕ) → xs ≡ [] → Begins xs ys
-unfolding Begins
-none_begins xs ys e = (ys, ap (λ (x : List ℕ). x ++ ys) e)
+use Rattle.machine.specs.Machine.{Conf, Role, leader}
+use Rattle.machine.specs.Step.{is_majority}
+use Rattle.machine.specs.World.{World, Reachable}
+use Rattle.machine.specs.Fits.{LeaderFits, RoleFits, Refines}
+use Rattle.machine.proofs.Fits.{majority_true}
+use Rattle.machine.specs.Theorems.{LeaderHasOrder}
+use Rattle.machine.proofs.Decided.{take_begins, none_begins}
+use Rattle.machine.proofs.Theorems.{reachable_refines}
 
 -- in a cluster of the protocol: more than half are in term t now
 module _ (n : ℕ) (d : Cluster) (sf : Safe n d) (t : ℕ) (up : ℕ → Bool) (most : Majority n up) (there : (j : ℕ) → up j ≡ true → (d.now j).term ≡ t) where
@@ -61,13 +55,8 @@ module _ (c : Conf) (w : World) (up : ℕ → Bool) (t i : ℕ) (a b : ℕ → �
       subst (λ (l : Log ℕ). Begins w.order (decisions l)) is
       (decided_lead c.size d hd.safe t up (majority_true c up most) now w.order led hd.order_decided)
 
-  pub leader_has_order : Begins w.order (decisions (w.memory i).log)
-  leader_has_order = let s = reachable_refines c w k in refined_lead s.to s.refines
+  leads_order : Begins w.order (decisions (w.memory i).log)
+  leads_order = let s = reachable_refines c w k in refined_lead s.to s.refines
 
-  -- and if it holds its whole log for committed, it holds all of that for decided
-  pub commit_all : length (w.memory i).log ≤ (w.memory i).commit → length w.order ≡ length (decided (w.memory i))
-  unfolding decided
-  commit_all full =
-      let all : length (decisions (take (w.memory i).commit (w.memory i).log)) ≡ length (decisions (w.memory i).log) =
-      ap (λ (l : Log ℕ). length (decisions l)) (take_all (w.memory i).commit (w.memory i).log full) in
-      omega (arith, all, begins_length w.order (decisions (w.memory i).log) leader_has_order, begins_length (decided (w.memory i)) w.order (decided_up c w i k u))
+pub leader_has_order : LeaderHasOrder
+leader_has_order = leads_order

@@ -10,10 +10,10 @@ use Rattle.protocol.specs.State.{State, Sound}
 use Rattle.protocol.proofs.Logs.{content_same}
 use Rattle.protocol.proofs.Decisions.{decisions_all, decisions_apart}
 use Rattle.machine.specs.Machine.{Conf, Machine}
-use Rattle.machine_several.specs.World.{World, At, Reachable}
-use Rattle.machine_several.specs.Fits.{state_of, Small}
-use Rattle.machine_several.proofs.Small.{small_short, matching_small}
-use Rattle.machine_several.proofs.Theorems.{reachable_refines, at_stable}
+use Rattle.machine.specs.World.{World, At, Reachable}
+use Rattle.machine.specs.Fits.{state_of, Small}
+use Rattle.machine.proofs.Small.{small_short, matching_small}
+use Rattle.machine.proofs.Theorems.{reachable_refines, at_stable}
 
 -- numbers below suc k that stand apart: without k, which stands there once at most, they are below k
 record Dropped (k : ℕ) (xs : List ℕ) : Type 0 where

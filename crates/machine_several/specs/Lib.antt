@@ -1,6 +1,0 @@
-pub mod Step
-pub mod Maps
-pub mod World
-pub mod Fits
-pub mod Theorems
-pub mod Example
