@@ -3,13 +3,16 @@ use Rattle.std.specs.Prelude.{ℕ, zero, suc, ◌+◌, ◌-◌, cond, List, [], 
 use Rattle.raft_log.specs.Layout.{memory_words}
 use Rattle.raft_log.specs.Values.{value_at}
 use Rattle.raft_log.specs.Entries.{applied_number, decided}
-use Rattle.solo.specs.declared.header.Machine.{Machine}
-use Rattle.solo.specs.declared.proposal.Refusal.{Refusal}
+use Rattle.solo.specs.declared.header.Role.{Role}
+use Rattle.raft.specs.declared.header.Machine.{Machine}
+use Rattle.raft.specs.declared.proposal.Refusal.{Refusal}
 use Rattle.solo.specs.Header.{loaded, stored}
 use Rattle.solo.specs.Power.{powered}
 use Rattle.solo.specs.Election.{ticked}
-use Rattle.solo.specs.Proposal.{proposed, refusal_number}
-use Rattle.solo.specs.Apply.{settled, due, advanced}
+use Rattle.solo.specs.Proposal.{proposed}
+use Rattle.raft.specs.Proposal.{refusal_number}
+use Rattle.solo.specs.Apply.{advanced}
+use Rattle.raft.specs.Apply.{settled, due}
 use Rattle.together.specs.House.{Command, propose, how_far}
 use Rattle.together.specs.Promise.{Event, on, said, came, tick, next, Act, settle, applies, shows, done, refused, Step}
 
@@ -17,7 +20,7 @@ abbrev pub answer : List ℕ → Act → Step
 answer m a = record { memory = m; act = a }
 
 -- the next decision is applied, if one is due
-abbrev pub apply_due : List ℕ → Machine → Option ℕ → Step
+abbrev pub apply_due : List ℕ → Machine Role → Option ℕ → Step
 apply_due m x (Some k) = answer (advanced m x (k + 1)) (applies (k + 1) (value_at m k))
 apply_due m x None = answer m done
 

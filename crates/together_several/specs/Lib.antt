@@ -1,2 +1,3 @@
 pub mod Machine
 pub mod Entry
+pub mod Several

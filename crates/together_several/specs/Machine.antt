@@ -4,6 +4,7 @@ use Rattle.std.proofs.Math.Option.{Option as Maybe, none}
 use Rattle.raft_log.specs.Values.{value_at}
 use Rattle.raft_log.specs.Entries.{applied_number, decided}
 use Rattle.messages.specs.Letter.{Letter, letter_bytes, letter_of}
+use Rattle.raft.specs.declared.header.Role.{Role}
 use Rattle.raft.specs.declared.header.Machine.{Machine}
 use Rattle.raft.specs.declared.proposal.Refusal.{Refusal}
 use Rattle.raft.specs.Header.{loaded, stored}
@@ -18,12 +19,12 @@ use Rattle.together.specs.Machine.{answer, decisions_from}
 use Rattle.together.specs.Promise.{Event, on, said, came, tick, next, Act, flies, settle, applies, shows, done, refused, Step, are_bytes}
 
 -- the next decision is applied, if one is due
-abbrev pub apply_due : List ℕ → Machine → Option ℕ → Step
+abbrev pub apply_due : List ℕ → Machine Role → Option ℕ → Step
 apply_due m x (Some k) = answer (advanced m x (k + 1)) (applies (k + 1) (value_at m k))
 apply_due m x None = answer m done
 
 -- the first letter that is due flies; then decisions are applied
-abbrev pub send_due : List ℕ → Machine → List Mail → Step
+abbrev pub send_due : List ℕ → Machine Role → List Mail → Step
 send_due m x [] = apply_due m x (due m)
 send_due m x (l ∷ ls) = answer (flown_to m l.to) (flies l.to (letter_bytes l.letter))
 

@@ -1,8 +1,13 @@
 //! Machines alone and together: the test carries their letters.
+use super::several::Several;
 use super::*;
+use raft::header::ClusterSize;
+use raft_log::MachineId;
+use raft_log::layout::Memory;
 use std::alloc::{AllocError, Global};
 use std::collections::VecDeque;
 use std::test::Fail;
+use together::engine::{Event, MAX_LETTER_BYTES, react};
 
 // Above any number of acts that an event begins, and of letters that it leads to.
 const MAX_ACTS: u64 = 5000;
@@ -10,91 +15,87 @@ const MAX_ACTS: u64 = 5000;
 // A machine's memory, and a place for what its acts carry.
 #[derive(Drop)]
 struct Lent {
-    memory: Vec<u64>,
-    out: Vec<u8>,
+    memory: Box<Memory>,
+    out: Box<[u8; MAX_LETTER_BYTES]>,
 }
 
 impl Lent {
     fn new(heap: Global) -> Result<Lent, AllocError> {
         Ok(Lent {
-            memory: vec![in heap; 0; MEMORY_WORDS]?,
-            out: vec![in heap; 0; MAX_LETTER_BYTES]?,
+            memory: Box::new(heap, [0; MEMORY_WORDS])?,
+            out: Box::new(heap, [0; MAX_LETTER_BYTES])?,
         })
     }
 
-    fn told(&mut self, kind: u64, a: u64, b: u64, bytes: &[u8]) -> Told {
-        step(&mut self.memory, kind, a, b, bytes, &mut self.out)
+    fn told(&mut self, event: Event<'_>) -> Told {
+        react::<Several>(&mut self.memory, event, &mut *self.out)
     }
 
     // An event whose acts are not looked at.
-    fn passes(&mut self, kind: u64, a: u64, b: u64, bytes: &[u8]) {
-        let _first = self.told(kind, a, b, bytes);
+    fn passes(&mut self, event: Event<'_>) {
+        let _first = self.told(event);
         for _ in 0..MAX_ACTS {
-            let Told::Done = self.told(5, 0, 0, b"") else {
-                continue;
-            };
-            return;
+            if self.told(Event::GoOn) == Told::Done {
+                return;
+            }
         }
+    }
+}
+
+fn power(id: u64, size: u64) -> Event<'static> {
+    Event::Power {
+        id: MachineId(id),
+        size: ClusterSize(size),
+    }
+}
+
+fn letter(from: u64, bytes: &[u8]) -> Event<'_> {
+    Event::Letter {
+        from: MachineId(from),
+        bytes,
     }
 }
 
 #[test]
 fn alone_it_leads_and_decides(rt: HostRuntime) -> Result<(), Fail> {
     let mut lent = Lent::new(rt.alloc())?;
-    lent.passes(0, 0, 1, b"");
-    let Told::No(3) = lent.told(1, 0, 0, b"too early") else {
-        return Err(Fail::new("a proposal to one that does not lead"));
-    };
+    lent.passes(power(0, 1));
+    assert_eq!(rt; lent.told(Event::Propose(b"too early")), Told::No(3));
     for _ in 0..10 {
-        lent.passes(4, 0, 0, b"");
+        lent.passes(Event::Tick);
     }
-    let Told::No(6) = lent.told(1, 0, 0, &[7; 257]) else {
-        return Err(Fail::new("257 bytes"));
-    };
-    let Told::Settle = lent.told(1, 0, 0, b"hello") else {
-        return Err(Fail::new("nothing is applied before it is safe"));
-    };
-    let Told::Applies(1, 5) = lent.told(5, 0, 0, b"") else {
-        return Err(Fail::new("the first decision"));
-    };
-    assert!(rt; lent.out.len() == 4096);
-    assert_eq!(rt; lent.out[4], 111);
-    let Told::Done = lent.told(5, 0, 0, b"") else {
-        return Err(Fail::new("nothing more is due"));
-    };
-    let Told::Shows(1) = lent.told(2, 0, 0, b"") else {
-        return Err(Fail::new("how far"));
-    };
+    assert_eq!(rt; lent.told(Event::Propose(&[7; 257])), Told::No(6));
+    assert_eq!(rt;
+        lent.told(Event::Propose(b"hello")),
+        Told::Settle,
+        "nothing is applied before it is safe"
+    );
+    assert_eq!(rt; lent.told(Event::GoOn), Told::Applies(1, 5));
+    assert_eq!(rt; lent.out[4], b'o');
+    assert_eq!(rt; lent.told(Event::GoOn), Told::Done);
+    assert_eq!(rt; lent.told(Event::HowFar), Told::Shows(1));
     Ok(())
 }
 
 #[test]
 fn a_log_can_be_full(rt: HostRuntime) -> Result<(), Fail> {
     let mut lent = Lent::new(rt.alloc())?;
-    lent.passes(0, 0, 1, b"");
+    lent.passes(power(0, 1));
     for _ in 0..10 {
-        lent.passes(4, 0, 0, b"");
+        lent.passes(Event::Tick);
     }
     for _ in 0..4096 {
-        lent.passes(1, 0, 0, b"");
+        lent.passes(Event::Propose(b""));
     }
-    let Told::No(7) = lent.told(1, 0, 0, b"") else {
-        return Err(Fail::new("one more than 4,096"));
-    };
-    let Told::Shows(4096) = lent.told(2, 0, 0, b"") else {
-        return Err(Fail::new("4,096 were applied"));
-    };
-    let Told::No(0) = lent.told(6, 0, 0, b"") else {
-        return Err(Fail::new("no such kind"));
-    };
+    assert_eq!(rt;
+        lent.told(Event::Propose(b"")),
+        Told::No(7),
+        "one more than 4,096"
+    );
+    assert_eq!(rt; lent.told(Event::HowFar), Told::Shows(4096));
+    let told = step(&mut *lent.memory, 6, 0, 0, b"", &mut *lent.out);
+    assert_eq!(rt; told, Told::No(0), "no such kind");
     Ok(())
-}
-
-fn front(bytes: &[u8], long: u64) -> &[u8] {
-    if long as usize > bytes.len() {
-        return bytes;
-    }
-    &bytes[0..long as usize]
 }
 
 // A letter on its way.
@@ -122,42 +123,41 @@ impl Net {
             wire: VecDeque::new(heap),
         };
         for id in 0..size {
-            if net.machines.push(Lent::new(heap)?).is_err() {
-                return Err(Fail::new("no room for a machine"));
-            }
-            net.event(id, 0, id, size, b"")?;
+            net.machines.push(Lent::new(heap)?)?;
+            net.event(id, power(id, size))?;
         }
         Ok(net)
     }
 
-    fn told(&mut self, id: u64, kind: u64, a: u64, b: u64, bytes: &[u8]) -> Result<Told, Fail> {
+    fn told(&mut self, id: u64, event: Event<'_>) -> Result<Told, Fail> {
         let Some(lent) = self.machines.get_mut(id as usize) else {
             return Err(Fail::new("no such machine"));
         };
-        let told = lent.told(kind, a, b, bytes);
+        let told = lent.told(event);
         if let Told::Flies(to, long) = told {
-            let post = Post {
+            let Some(bytes) = lent.out.get(..long as usize) else {
+                return Err(Fail::new("a letter beyond its room"));
+            };
+            let bytes = Vec::from_slice(self.heap, bytes)?;
+            self.wire.push_back(Post {
                 from: id,
                 to,
-                bytes: Vec::from_slice(self.heap, front(&lent.out, long))?,
-            };
-            if self.wire.push_back(post).is_err() {
-                return Err(Fail::new("no room for a letter"));
-            }
+                bytes,
+            })?;
         }
         Ok(told)
     }
 
     // An event, with all its acts.
-    fn event(&mut self, id: u64, kind: u64, a: u64, b: u64, bytes: &[u8]) -> Result<(), Fail> {
-        let mut told = self.told(id, kind, a, b, bytes)?;
+    fn event(&mut self, id: u64, event: Event<'_>) -> Result<(), Fail> {
+        let mut told = self.told(id, event)?;
         for _ in 0..MAX_ACTS {
             match told {
                 Told::Done => return Ok(()),
                 Told::No(_) => return Err(Fail::new("refused")),
                 _ => {}
             }
-            told = self.told(id, 5, 0, 0, b"")?;
+            told = self.told(id, Event::GoOn)?;
         }
         Err(Fail::new("an event that does not end"))
     }
@@ -169,7 +169,7 @@ impl Net {
                 return Ok(());
             };
             if post.from != lost && post.to != lost {
-                self.event(post.to, 3, post.from, 0, &post.bytes)?;
+                self.event(post.to, letter(post.from, &post.bytes))?;
             }
         }
         Err(Fail::new("letters without end"))
@@ -180,7 +180,7 @@ impl Net {
         for _ in 0..count {
             for id in 0..self.machines.len() as u64 {
                 if id != lost {
-                    self.event(id, 4, 0, 0, b"")?;
+                    self.event(id, Event::Tick)?;
                 }
             }
             self.carry(lost)?;
@@ -188,11 +188,8 @@ impl Net {
         Ok(())
     }
 
-    fn how_far(&mut self, id: u64) -> Result<u64, Fail> {
-        let Told::Shows(number) = self.told(id, 2, 0, 0, b"")? else {
-            return Err(Fail::new("how far"));
-        };
-        Ok(number)
+    fn how_far(&mut self, id: u64) -> Result<Told, Fail> {
+        self.told(id, Event::HowFar)
     }
 }
 
@@ -202,22 +199,22 @@ const NONE: u64 = 7;
 fn two_elect_a_leader_and_decide(rt: HostRuntime) -> Result<(), Fail> {
     let mut net = Net::new(rt.alloc(), 2)?;
     net.ticks(10, NONE)?;
-    let Told::No(3) = net.told(0, 1, 0, 0, b"not here")? else {
-        return Err(Fail::new("a proposal to one that does not lead"));
-    };
-    let Told::Settle = net.told(1, 1, 0, 0, b"hello")? else {
-        return Err(Fail::new("nothing flies before it is safe"));
-    };
-    let Told::Flies(0, 49) = net.told(1, 5, 0, 0, b"")? else {
-        return Err(Fail::new("the value goes to the other"));
-    };
-    let Told::Done = net.told(1, 5, 0, 0, b"")? else {
-        return Err(Fail::new("one of two does not decide"));
-    };
-    assert_eq!(rt; net.how_far(1)?, 0);
+    assert_eq!(rt; net.told(0, Event::Propose(b"not here"))?, Told::No(3));
+    assert_eq!(rt;
+        net.told(1, Event::Propose(b"hello"))?,
+        Told::Settle,
+        "nothing flies before it is safe"
+    );
+    assert_eq!(rt; net.told(1, Event::GoOn)?, Told::Flies(0, 49));
+    assert_eq!(rt;
+        net.told(1, Event::GoOn)?,
+        Told::Done,
+        "one of two does not decide"
+    );
+    assert_eq!(rt; net.how_far(1)?, Told::Shows(0));
     net.carry(NONE)?;
-    assert_eq!(rt; net.how_far(0)?, 1);
-    assert_eq!(rt; net.how_far(1)?, 1);
+    assert_eq!(rt; net.how_far(0)?, Told::Shows(1));
+    assert_eq!(rt; net.how_far(1)?, Told::Shows(1));
     Ok(())
 }
 
@@ -225,17 +222,17 @@ fn two_elect_a_leader_and_decide(rt: HostRuntime) -> Result<(), Fail> {
 fn a_vote_is_safe_before_it_flies(rt: HostRuntime) -> Result<(), Fail> {
     let mut net = Net::new(rt.alloc(), 2)?;
     for _ in 0..10 {
-        net.event(1, 4, 0, 0, b"")?;
+        net.event(1, Event::Tick)?;
     }
     let Some(post) = net.wire.pop_back() else {
         return Err(Fail::new("nobody asks for a vote"));
     };
-    let Told::Settle = net.told(0, 3, 1, 0, &post.bytes)? else {
-        return Err(Fail::new("a vote that is not safe"));
-    };
-    let Told::Flies(1, 10) = net.told(0, 5, 0, 0, b"")? else {
-        return Err(Fail::new("no vote"));
-    };
+    assert_eq!(rt;
+        net.told(0, letter(1, &post.bytes))?,
+        Told::Settle,
+        "a vote is made safe first"
+    );
+    assert_eq!(rt; net.told(0, Event::GoOn)?, Told::Flies(1, 10));
     Ok(())
 }
 
@@ -243,20 +240,20 @@ fn a_vote_is_safe_before_it_flies(rt: HostRuntime) -> Result<(), Fail> {
 fn three_go_on_without_one(rt: HostRuntime) -> Result<(), Fail> {
     let mut net = Net::new(rt.alloc(), 3)?;
     net.ticks(10, 2)?;
-    net.event(1, 1, 0, 0, b"first")?;
+    net.event(1, Event::Propose(b"first"))?;
     net.carry(2)?;
-    assert_eq!(rt; net.how_far(0)?, 1);
-    assert_eq!(rt; net.how_far(1)?, 1);
-    assert_eq!(rt; net.how_far(2)?, 0);
+    assert_eq!(rt; net.how_far(0)?, Told::Shows(1));
+    assert_eq!(rt; net.how_far(1)?, Told::Shows(1));
+    assert_eq!(rt; net.how_far(2)?, Told::Shows(0));
     net.ticks(1, NONE)?;
-    assert_eq!(rt; net.how_far(2)?, 1);
+    assert_eq!(rt; net.how_far(2)?, Told::Shows(1));
     net.ticks(10, 1)?;
-    net.event(2, 1, 0, 0, b"second")?;
+    net.event(2, Event::Propose(b"second"))?;
     net.carry(1)?;
-    assert_eq!(rt; net.how_far(0)?, 2);
-    assert_eq!(rt; net.how_far(2)?, 2);
+    assert_eq!(rt; net.how_far(0)?, Told::Shows(2));
+    assert_eq!(rt; net.how_far(2)?, Told::Shows(2));
     net.ticks(2, NONE)?;
-    assert_eq!(rt; net.how_far(1)?, 2);
+    assert_eq!(rt; net.how_far(1)?, Told::Shows(2));
     Ok(())
 }
 
@@ -264,26 +261,33 @@ fn three_go_on_without_one(rt: HostRuntime) -> Result<(), Fail> {
 fn what_is_no_letter_changes_nothing(rt: HostRuntime) -> Result<(), Fail> {
     let mut net = Net::new(rt.alloc(), 2)?;
     net.ticks(10, NONE)?;
-    net.event(1, 1, 0, 0, b"hello")?;
+    net.event(1, Event::Propose(b"hello"))?;
     let Some(post) = net.wire.pop_front() else {
         return Err(Fail::new("no letter"));
     };
     let Some(lent) = net.machines.get_mut(0) else {
         return Err(Fail::new("no machine"));
     };
-    let before = lent.memory.clone()?;
-    let Told::Done = lent.told(3, 1, 0, b"no letter") else {
-        return Err(Fail::new("bytes that are no letter"));
+    let before = Vec::from_slice(rt.alloc(), &*lent.memory)?;
+    assert_eq!(rt; lent.told(letter(1, b"no letter")), Told::Done);
+    let Some(part) = post.bytes.get(..40) else {
+        return Err(Fail::new("a short letter"));
     };
-    let Told::Done = lent.told(3, 1, 0, front(&post.bytes, 40)) else {
-        return Err(Fail::new("a part of a letter"));
-    };
-    let Told::Done = lent.told(3, 0, 0, &post.bytes) else {
-        return Err(Fail::new("a letter from itself"));
-    };
-    assert!(rt; lent.memory == before);
-    let Told::Settle = lent.told(3, 1, 0, &post.bytes) else {
-        return Err(Fail::new("the letter itself"));
-    };
+    assert_eq!(rt;
+        lent.told(letter(1, part)),
+        Told::Done,
+        "a part of a letter"
+    );
+    assert_eq!(rt;
+        lent.told(letter(0, &post.bytes)),
+        Told::Done,
+        "a letter from itself"
+    );
+    assert!(rt; before.as_slice() == &lent.memory[..]);
+    assert_eq!(rt;
+        lent.told(letter(1, &post.bytes)),
+        Told::Settle,
+        "the letter itself"
+    );
     Ok(())
 }

@@ -1,33 +1,14 @@
-use Rattle.std.proofs.Common.{rules}
-use Rattle.together.specs.Entry.{ActTold, StepSays, own, event_of}
-use Rattle.together.specs.Machine.{own_step}
+use Rattle.std.proofs.Common.{Bool, length, sym, subst}
+use Rattle.together.specs.Entry.{StepSays, lengths_fit}
 use Rattle.together.proofs.Lengths.{fits_is}
+use Rattle.together.proofs.Steps.{says}
 use Rattle.together.proofs.step.Goals as goal
 
-pub returns-then-not-fits : goal.returns-then-not-fits
-unfolding ActTold StepSays own event_of own_step
-returns-then-not-fits c = search (rules, fits_is)
-
-pub returns-in-0 : goal.returns-in-0
-unfolding ActTold StepSays own event_of own_step
-returns-in-0 c = search (rules, fits_is)
-
-pub returns-in-1 : goal.returns-in-1
-unfolding ActTold StepSays own event_of own_step
-returns-in-1 c = search (rules, fits_is)
-
-pub returns-in-2 : goal.returns-in-2
-unfolding ActTold StepSays own event_of own_step
-returns-in-2 c = search (rules, fits_is)
-
-pub returns-in-3 : goal.returns-in-3
-unfolding ActTold StepSays own event_of own_step
-returns-in-3 c = search (rules, fits_is)
-
-pub returns-in-4 : goal.returns-in-4
-unfolding ActTold StepSays own event_of own_step
-returns-in-4 c = search (rules, fits_is)
-
-pub returns-in_default : goal.returns-in_default
-unfolding ActTold StepSays own event_of own_step
-returns-in_default c = search (rules, fits_is)
+pub returns : goal.returns
+returns c =
+    let m = c.args.memory.now in
+    let bytes = c.args.bytes.now in
+    let out = c.args.out.now in
+    subst (λ (fits : Bool). StepSays m c.args.kind c.args.a c.args.b bytes out fits c.step_of.result c.step_of.new.memory c.step_of.new.out)
+    (sym (fits_is m c.args.kind bytes out))
+    (says m c.args.kind c.args.a c.args.b bytes out (lengths_fit (length m) c.args.kind (length bytes) (length out)) c.step_of.result c.step_of.new.memory c.step_of.new.out c.step_of.ensures)

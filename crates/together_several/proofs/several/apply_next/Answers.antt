@@ -1,6 +1,6 @@
 use Rattle.std.proofs.Common.{rules}
 use Rattle.together.specs.Entry.{ActTold}
-use Rattle.together_several.proofs.acts.apply_next.Goals as goal
+use Rattle.together_several.proofs.several.apply_next.Goals as goal
 
 pub returns-in_default : goal.returns-in_default
 unfolding ActTold

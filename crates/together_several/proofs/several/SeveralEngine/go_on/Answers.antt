@@ -1,15 +1,15 @@
 use Rattle.std.proofs.Common.{rules}
 use Rattle.together.specs.Entry.{ActTold}
-use Rattle.together.specs.Machine.{go_on}
-use Rattle.together.proofs.acts.go_on.Goals as goal
+use Rattle.together_several.specs.Machine.{go_on}
+use Rattle.together_several.proofs.several.SeveralEngine.go_on.Goals as goal
 
 pub returns-then-machine : goal.returns-then-machine
 unfolding ActTold go_on
 returns-then-machine c = search rules
 
-pub returns-in_default : goal.returns-in_default
+pub returns-in-Some : goal.returns-in-Some
 unfolding ActTold go_on
-returns-in_default c = search rules
+returns-in-Some c = search rules
 
 pub returns : goal.returns
 unfolding ActTold go_on
