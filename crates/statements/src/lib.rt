@@ -4,54 +4,40 @@ ghost use Rattle.together.specs.Promise.{Agree, LaterProposals, TwoHalves, NoGap
 ghost use Rattle.statements.specs.Near.{AgreeByAny, LaterInFront, HalvesMeet, NoGapSince, AloneTwice};
 
 // What two machines applied at the same index is the same.
-pub fn agree() -> u8
+pub fn agree()
     ensures { Agree }
-{
-    0
-}
+{}
 
 // What was right stays right when more has been proposed.
-pub fn later_proposals() -> u8
+pub fn later_proposals()
     ensures { LaterProposals }
-{
-    0
-}
+{}
 
 // Two majorities have a machine in common.
-pub fn two_halves() -> u8
+pub fn two_halves()
     ensures { TwoHalves }
-{
-    0
-}
+{}
 
 // What is applied in turn has no gap.
-pub fn no_gap() -> u8
+pub fn no_gap()
     ensures { NoGap }
-{
-    0
-}
+{}
 
 // What is right with calm is right without.
-pub fn calm_more() -> u8
+pub fn calm_more()
     ensures { CalmMore }
-{
-    0
-}
+{}
 
 // A majority of one machine is that machine.
-pub fn alone() -> u8
+pub fn alone()
     ensures { Alone }
-{
-    0
-}
+{}
 
 // The premises are needed: with one less, or a weaker one, each of these is false.
-pub fn premises_are_needed() -> u8
+pub fn premises_are_needed()
     ensures order { AgreeByAny → ⊥ }
     ensures behind { LaterInFront → ⊥ }
     ensures more { HalvesMeet → ⊥ }
     ensures first { NoGapSince → ⊥ }
     ensures once { AloneTwice → ⊥ }
-{
-    0
-}
+{}

@@ -116,7 +116,7 @@ mod tests {
         }
 
         fn told(&mut self, event: Event<'_>) -> Told {
-            react::<Alone>(&mut self.memory, event, &mut self.out)
+            react::<Alone>(&mut self.memory, event, &mut *self.out)
         }
 
         // An event whose acts are not looked at.

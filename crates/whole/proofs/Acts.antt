@@ -5,9 +5,11 @@ use Rattle.raft_log.specs.Layout.{memory_words}
 use Rattle.raft_log.specs.Values.{value_at}
 use Rattle.raft_log.specs.Entries.{commit_index, applied_number, number_at, decided, applied_set}
 use Rattle.raft_log.proofs.LogLaws.{number_most, SameEntries, applied_set_entries, applied_set_commit, applied_set_applied, applied_set_other, length_applied_set}
-use Rattle.solo.specs.declared.header.Machine.{Machine}
+use Rattle.solo.specs.declared.header.Role.{Role}
+use Rattle.raft.specs.declared.header.Machine.{Machine}
 use Rattle.solo.specs.Header.{loaded, stored}
-use Rattle.solo.specs.Apply.{settled, applied_up_to, due, advanced}
+use Rattle.solo.specs.Apply.{advanced}
+use Rattle.raft.specs.Apply.{settled, applied_up_to, due}
 use Rattle.solo.proofs.HeaderLaws.{Held, loaded_held, loaded_stored, loaded_alike, length_stored, stored_entries, stored_commit, stored_applied}
 use Rattle.together.specs.Promise.{Act, settle, applies, done, next, Step}
 use Rattle.together.specs.Machine.{answer, apply_due, go_on, own_step, decisions_from, acts}
@@ -30,7 +32,7 @@ pub record SameLog (m m₁ : List ℕ) : Type 0 where
 pub same_decided : (m m₁ : List ℕ) → SameLog m m₁ → decided m₁ ≡ decided m
 same_decided m m₁ s = ap (number_at m₁) s.commit ∙ s.entries.numbers (commit_index m)
 
-pub stored_log : (m : List ℕ) (x : Machine) → SameLog m (stored m x)
+pub stored_log : (m : List ℕ) (x : Machine Role) → SameLog m (stored m x)
 stored_log m x = record { entries = stored_entries m x; commit = stored_commit m x }
 
 same_decisions : (m m₁ : List ℕ) → SameEntries m m₁ → (k n : ℕ) → decisions_from m₁ k n ≡ decisions_from m k n
@@ -69,7 +71,7 @@ module _ (m : List ℕ) (long : Long m) where
   abbrev pub onward : List ℕ
   onward = advanced m (loaded m) (applied_number m + 1)
 
-  abbrev noted : Machine
+  abbrev noted : Machine Role
   noted = applied_up_to (loaded m) (applied_number m + 1)
 
   noted_held : Held noted
@@ -118,7 +120,7 @@ module _ (m : List ℕ) (long : Long m) where
     acts_apply l =
         let k : ℕ = applied_number m in
         let more : decided m - k ≡ suc (decided m - (k + 1)) = omega arith in
-        let u : (loaded onward).unsettled ≡ false = ap (λ (x : Machine). x.unsettled) onward_loaded ∙ still in
+        let u : (loaded onward).unsettled ≡ false = ap (λ (x : Machine Role). x.unsettled) onward_loaded ∙ still in
         let left : decisions_from onward (applied_number onward) (decided onward - applied_number onward) ≡ decisions_from m (k + 1) (decided m - (k + 1)) =
         rw (onward_applied l, same_decided m onward onward_log) (same_decisions m onward onward_log.entries (k + 1) (decided m - (k + 1))) in
         acts_still m still ∙ (ap (decisions_from m k) more ∙ sym (ap (λ x. applies (k + 1) (value_at m k) ∷ x) (acts_still onward u ∙ left)))

@@ -5,14 +5,20 @@ use Rattle.std.proofs.lemmas.Bool.{ltb-true, lt-ltb, le-leb, and_from, cond_both
 use Rattle.raft_log.specs.Entries.{last_index, applied_number, value_fits, value_appended, empty_place, empty_fits, empty_appended, commit_raised, applied_set}
 use Rattle.raft_log.proofs.LogLaws.{applied_most, applied_set_entries, applied_set_commit, applied_set_applied, applied_set_other, length_applied_set, commit_raised_applied}
 use Rattle.raft_log.proofs.AppendLaws.{appended_applied, empty_applied}
-use Rattle.solo.specs.declared.header.Ticks.{Ticks}
+use Rattle.raft.specs.declared.header.Ticks.{Ticks}
 use Rattle.solo.specs.declared.header.Role.{Role}
 use Rattle.solo.specs.declared.header.Role.TheVariants.{Follower, Candidate, Leader}
-use Rattle.solo.specs.declared.header.Machine.{Machine}
-use Rattle.solo.specs.Header.{ticks, elapsed_word, loaded, stored}
-use Rattle.solo.specs.Power.{belongs, restarted, powered}
-use Rattle.solo.specs.Election.{older, with_role, in_term, led, campaigned, term_entered, next_term_entered, waited, tick_as, ticked, most_of, owner}
-use Rattle.solo.specs.Proposal.{with_unsettled, own_acked, taken}
+use Rattle.raft.specs.declared.header.Machine.{Machine}
+use Rattle.solo.specs.Header.{elapsed_word, loaded, stored}
+use Rattle.raft.specs.Header.{ticks}
+use Rattle.solo.specs.Power.{powered}
+use Rattle.raft.specs.Power.{belongs, restarted}
+use Rattle.solo.specs.Election.{led, campaigned, term_entered, next_term_entered, waited, tick_as, ticked}
+use Rattle.raft.specs.Header.{older, with_role, in_term}
+use Rattle.raft.specs.Rows.{most_of}
+use Rattle.raft.specs.Election.{owner}
+use Rattle.solo.specs.Proposal.{own_acked, taken}
+use Rattle.raft.specs.Proposal.{with_unsettled}
 use Rattle.solo.proofs.HeaderLaws.{Held, loaded_held, loaded_stored, loaded_alike, length_stored, stored_entries, stored_commit, stored_applied}
 use Rattle.together.specs.House.{Far, far, next_ok, may_apply, an_order}
 use Rattle.together.specs.Promise.{last_since, are_bytes}
@@ -35,18 +41,18 @@ module _ (many h k : ℕ) (ps : List (List ℕ)) (o : List ℕ) (m : List ℕ) (
   pub rests_since : last_since f.since ≡ length o
   rests_since = r.going.reach r.all
 
-  going_stored : (k₁ : ℕ) (ps₁ : List (List ℕ)) (o₁ m₀ : List ℕ) (y : Machine) → Holds ps₁ o₁ m₀ → applied_number m₀ ≡ applied_number m → length o ≤ length o₁ → Held y →
+  going_stored : (k₁ : ℕ) (ps₁ : List (List ℕ)) (o₁ m₀ : List ℕ) (y : Machine Role) → Holds ps₁ o₁ m₀ → applied_number m₀ ≡ applied_number m → length o ≤ length o₁ → Held y →
       y.size.0 ≡ many → y.id.0 ≡ h → (y.role ≡ Leader → many ≡ 1) → y.term.0 ≤ k₁ → y.since.0 ≡ (loaded m).since.0 → Going many h k₁ ps₁ o₁ (stored m₀ y) f
   going_stored k₁ ps₁ o₁ m₀ y hold a more held size id leads term since =
       let x = loaded_stored m₀ y hold.long held in
       let ap₀ : applied_number (stored m₀ y) ≡ length o = stored_applied m₀ y ∙ (a ∙ rests_applied) in
       record {
         holds = holds_same ps₁ o₁ m₀ (stored m₀ y) (length_stored m₀ y ∙ hold.long) (stored_log m₀ y) hold;
-        size = ap (λ (z : Machine). z.size.0) x ∙ size;
-        id = ap (λ (z : Machine). z.id.0) x ∙ id;
-        leads = λ e. leads (sym (ap (λ (z : Machine). z.role) x) ∙ e);
-        term = subst (λ (z : Machine). z.term.0 ≤ k₁) (sym x) term;
-        since = ap (λ (z : Machine). z.since.0) x ∙ (since ∙ r.going.since);
+        size = ap (λ (z : Machine Role). z.size.0) x ∙ size;
+        id = ap (λ (z : Machine Role). z.id.0) x ∙ id;
+        leads = λ e. leads (sym (ap (λ (z : Machine Role). z.role) x) ∙ e);
+        term = subst (λ (z : Machine Role). z.term.0 ≤ k₁) (sym x) term;
+        since = ap (λ (z : Machine Role). z.since.0) x ∙ (since ∙ r.going.since);
         turn = subst (λ (j : ℕ). may_apply f (j + 1) ≡ true) (sym (stored_applied m₀ y ∙ a)) r.going.turn;
         low = omega arith;
         reach = λ l. omega (arith, rests_since);
@@ -55,7 +61,7 @@ module _ (many h k : ℕ) (ps : List (List ℕ)) (o : List ℕ) (m : List ℕ) (
         settles = λ _. omega (arith, rests_since, r.going.reached);
       }
 
-  abbrev x : Machine
+  abbrev x : Machine Role
   x = loaded m
 
   -- A TICK: the order is as it was
@@ -63,7 +69,7 @@ module _ (many h k : ℕ) (ps : List (List ℕ)) (o : List ℕ) (m : List ℕ) (
     abbrev GoesOn : List ℕ → Type 0
     GoesOn m₁ = Going many h k₁ ps o m₁ f
 
-    in_role : (y : Machine) → Held y → y.size.0 ≡ x.size.0 → y.id.0 ≡ x.id.0 → (y.role ≡ Leader → many ≡ 1) → y.term.0 ≤ k₁ → y.since.0 ≡ x.since.0 → GoesOn (stored m y)
+    in_role : (y : Machine Role) → Held y → y.size.0 ≡ x.size.0 → y.id.0 ≡ x.id.0 → (y.role ≡ Leader → many ≡ 1) → y.term.0 ≤ k₁ → y.since.0 ≡ x.since.0 → GoesOn (stored m y)
     in_role y held size id leads term since =
         going_stored k₁ ps o m y r.going.holds refl (omega arith) held (size ∙ r.going.size) (id ∙ r.going.id) leads term since
 
@@ -134,8 +140,8 @@ module _ (many h k : ℕ) (ps : List (List ℕ)) (o : List ℕ) (m : List ℕ) (
 
 -- POWER COMES
 module _ (many h k : ℕ) (ps : List (List ℕ)) (o : List ℕ) (s : List ℕ) (reach : ℕ) (g : Stable many h k ps o s (far reach [])) (ever : reach ≤ length o) (there : h < many) (few : many ≤ 7) where
-  abbrev woken : Machine
-  woken = restarted (loaded s) h many
+  abbrev woken : Machine Role
+  woken = restarted (loaded s) h many (Follower (ticks 0))
 
   abbrev m₀ : List ℕ
   m₀ = stored s woken
@@ -175,11 +181,11 @@ module _ (many h k : ℕ) (ps : List (List ℕ)) (o : List ℕ) (s : List ℕ) (
       subst (λ (m : List ℕ). Going many h k₁ ps o m (far reach [])) (sym power_is)
       (record {
         holds = holds_same ps o s m₁ (length_applied_set m₀ (applied_number s - 1) ∙ power_long) power_log g.holds;
-        size = ap (λ (z : Machine). z.size.0) power_loaded;
-        id = ap (λ (z : Machine). z.id.0) power_loaded;
-        leads = λ e. not_leader (ticks 0) (sym (ap (λ (z : Machine). z.role) power_loaded) ∙ e);
-        term = subst (λ (z : Machine). z.term.0 ≤ k₁) (sym power_loaded) (omega (arith, g.term));
-        since = ap (λ (z : Machine). z.since.0) power_loaded;
+        size = ap (λ (z : Machine Role). z.size.0) power_loaded;
+        id = ap (λ (z : Machine Role). z.id.0) power_loaded;
+        leads = λ e. not_leader (ticks 0) (sym (ap (λ (z : Machine Role). z.role) power_loaded) ∙ e);
+        term = subst (λ (z : Machine Role). z.term.0 ≤ k₁) (sym power_loaded) (omega (arith, g.term));
+        since = ap (λ (z : Machine Role). z.since.0) power_loaded;
         turn =
             and_from (leb 1 (applied_number m₁ + 1)) (leb (applied_number m₁ + 1) (suc reach)) (le-leb 1 (applied_number m₁ + 1) (omega arith))
             (le-leb (applied_number m₁ + 1) (suc reach) (omega (arith, power_applied, g.applied)));
@@ -187,7 +193,7 @@ module _ (many h k : ℕ) (ps : List (List ℕ)) (o : List ℕ) (s : List ℕ) (
         reach = λ l. omega (arith, power_applied, g.applied);
         ever = ever;
         reached = omega arith;
-        settles = λ u. absurd (true≢false (sym u ∙ ap (λ (z : Machine). z.unsettled) power_loaded));
+        settles = λ u. absurd (true≢false (sym u ∙ ap (λ (z : Machine Role). z.unsettled) power_loaded));
       })
 
 -- what is safe stays so as terms begin, and as more is proposed

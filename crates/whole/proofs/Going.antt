@@ -5,9 +5,10 @@ use Rattle.raft_log.specs.Values.{value_at}
 use Rattle.raft_log.specs.Entries.{commit_index, applied_number, decided}
 use Rattle.raft_log.proofs.LogLaws.{number_most}
 use Rattle.solo.specs.declared.header.Role.TheVariants.{Leader}
-use Rattle.solo.specs.declared.header.Machine.{Machine}
+use Rattle.solo.specs.declared.header.Role.{Role}
+use Rattle.raft.specs.declared.header.Machine.{Machine}
 use Rattle.solo.specs.Header.{loaded}
-use Rattle.solo.specs.Apply.{settled}
+use Rattle.raft.specs.Apply.{settled}
 use Rattle.solo.proofs.HeaderLaws.{stored_applied}
 use Rattle.together.specs.House.{pick, every, same, Applied, applied, Far, next_ok, may_apply, larger, got_to, all_in_turn, far_after, nth_value, by_order}
 use Rattle.together.specs.Promise.{Act, settle, Step, Ran, ran, last_since}
@@ -139,17 +140,17 @@ module _ (many h k : ℕ) (ps : List (List ℕ)) (o : List ℕ) where
       let a = stored_applied m (settled (loaded m)) in
       record {
         holds = holds_same ps o m (safe m long) (safe_long m long) (stored_log m (settled (loaded m))) g.holds;
-        size = ap (λ (y : Machine). y.size.0) x ∙ g.size;
-        id = ap (λ (y : Machine). y.id.0) x ∙ g.id;
-        leads = λ e. g.leads (sym (ap (λ (y : Machine). y.role) x) ∙ e);
-        term = subst (λ (y : Machine). y.term.0 ≤ k) (sym x) g.term;
-        since = ap (λ (y : Machine). y.since.0) x ∙ g.since;
+        size = ap (λ (y : Machine Role). y.size.0) x ∙ g.size;
+        id = ap (λ (y : Machine Role). y.id.0) x ∙ g.id;
+        leads = λ e. g.leads (sym (ap (λ (y : Machine Role). y.role) x) ∙ e);
+        term = subst (λ (y : Machine Role). y.term.0 ≤ k) (sym x) g.term;
+        since = ap (λ (y : Machine Role). y.since.0) x ∙ g.since;
         turn = subst (λ (j : ℕ). may_apply f (j + 1) ≡ true) (sym a) g.turn;
         low = omega (arith, g.low);
         reach = λ l. g.reach (omega arith);
         ever = g.ever;
         reached = g.reached;
-        settles = λ u. absurd (true≢false (sym u ∙ ap (λ (y : Machine). y.unsettled) x));
+        settles = λ u. absurd (true≢false (sym u ∙ ap (λ (y : Machine Role). y.unsettled) x));
       }
 
   safe_stable : (m : List ℕ) (f : Far) (g : Going m f) → (loaded m).unsettled ≡ true → Stable (safe m g.holds.long) f
@@ -173,17 +174,17 @@ module _ (many h k : ℕ) (ps : List (List ℕ)) (o : List ℕ) where
         let a = onward_applied m long l in
         record {
           holds = holds_same ps o m (onward m long) (onward_long m long) (onward_log m long) g.holds;
-          size = ap (λ (y : Machine). y.size.0) x ∙ g.size;
-          id = ap (λ (y : Machine). y.id.0) x ∙ g.id;
-          leads = λ e. g.leads (sym (ap (λ (y : Machine). y.role) x) ∙ e);
-          term = subst (λ (y : Machine). y.term.0 ≤ k) (sym x) g.term;
-          since = ap (λ (y : Machine). y.since.0) x;
+          size = ap (λ (y : Machine Role). y.size.0) x ∙ g.size;
+          id = ap (λ (y : Machine Role). y.id.0) x ∙ g.id;
+          leads = λ e. g.leads (sym (ap (λ (y : Machine Role). y.role) x) ∙ e);
+          term = subst (λ (y : Machine Role). y.term.0 ≤ k) (sym x) g.term;
+          since = ap (λ (y : Machine Role). y.since.0) x;
           turn = eq-eqb (applied_number (onward m long) + 1) (suc (j + 1)) (omega arith);
           low = omega (arith, within);
           reach = λ b. omega (arith, within);
           ever = larger_le f.ever (j + 1) (length o) g.ever (omega (arith, within));
           reached = larger_right f.ever (j + 1);
-          settles = λ e. absurd (true≢false (sym e ∙ (ap (λ (y : Machine). y.unsettled) x ∙ u)));
+          settles = λ e. absurd (true≢false (sym e ∙ (ap (λ (y : Machine Role). y.unsettled) x ∙ u)));
         }
 
     stable_onward : (s : List ℕ) → Stable s f → Stable s (got_to f (j + 1))
@@ -245,10 +246,10 @@ made_role (suc n) m s long = by (λ m₁ s₁ l. made_role n m₁ s₁ l) (goes 
     by : ((m₁ s₁ : List ℕ) → Long m₁ → (loaded (made n m₁ s₁).memory).role ≡ (loaded m₁).role) → Goes m → (loaded (made (suc n) m s).memory).role ≡ (loaded m).role
     by more (settling u) =
         ap (λ (r : Ran). (loaded r.memory).role) (made_settle n m s long u)
-        ∙ (more (safe m long) (safe m long) (safe_long m long) ∙ ap (λ (x : Machine). x.role) (safe_loaded m long))
+        ∙ (more (safe m long) (safe m long) (safe_long m long) ∙ ap (λ (x : Machine Role). x.role) (safe_loaded m long))
     by more (applying u l) =
         ap (λ (r : Ran). (loaded r.memory).role) (made_apply n m s long u l)
-        ∙ (more (onward m long) s (onward_long m long) ∙ ap (λ (x : Machine). x.role) (onward_loaded m long))
+        ∙ (more (onward m long) s (onward_long m long) ∙ ap (λ (x : Machine Role). x.role) (onward_loaded m long))
     by more (resting u l) = ap (λ (r : Ran). (loaded r.memory).role) (made_rest n m s long u l)
 
 -- what is settled first and applied next
@@ -257,7 +258,7 @@ pub made_first : (n : ℕ) (m s : List ℕ) (long : Long m) → (loaded m).unset
 made_first n m s long u l =
     let a = stored_applied m (settled (loaded m)) in
     let q = stored_log m (settled (loaded m)) in
-    let still : (loaded (safe m long)).unsettled ≡ false = ap (λ (x : Machine). x.unsettled) (safe_loaded m long) in
+    let still : (loaded (safe m long)).unsettled ≡ false = ap (λ (x : Machine Role). x.unsettled) (safe_loaded m long) in
     made_settle (suc n) m s long u
     ∙ (made_apply n (safe m long) (safe m long) (safe_long m long) still (omega (arith, same_decided m (safe m long) q))
     ∙ ap (λ (y : Applied). after_first y (made n (onward (safe m long) (safe_long m long)) (safe m long)))

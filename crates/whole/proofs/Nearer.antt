@@ -4,12 +4,16 @@ use Rattle.std.proofs.lemmas.Bool.{lt-ltb, le-ltb, eq-eqb, cond-true, cond-false
 use Rattle.raft_log.specs.Entries.{empty_fits, empty_place, empty_appended, commit_raised}
 use Rattle.raft_log.proofs.LogLaws.{length_commit_raised}
 use Rattle.raft_log.proofs.AppendLaws.{roomy_fits, length_empty}
-use Rattle.solo.specs.declared.header.Ticks.{Ticks}
+use Rattle.raft.specs.declared.header.Ticks.{Ticks}
 use Rattle.solo.specs.declared.header.Role.{Role}
 use Rattle.solo.specs.declared.header.Role.TheVariants.{Follower, Candidate, Leader}
-use Rattle.solo.specs.declared.header.Machine.{Machine}
-use Rattle.solo.specs.Header.{ticks, elapsed_word, loaded, stored}
-use Rattle.solo.specs.Election.{older, with_role, in_term, led, campaigned, term_entered, next_term_entered, waited, tick_as, ticked, most_of, owner}
+use Rattle.raft.specs.declared.header.Machine.{Machine}
+use Rattle.solo.specs.Header.{elapsed_word, loaded, stored}
+use Rattle.raft.specs.Header.{ticks}
+use Rattle.solo.specs.Election.{led, campaigned, term_entered, next_term_entered, waited, tick_as, ticked}
+use Rattle.raft.specs.Header.{older, with_role, in_term}
+use Rattle.raft.specs.Rows.{most_of}
+use Rattle.raft.specs.Election.{owner}
 use Rattle.solo.proofs.HeaderLaws.{Held, loaded_held, loaded_stored}
 use Rattle.together.specs.House.{Far}
 use Rattle.whole.proofs.Acts.{Long}
@@ -25,7 +29,7 @@ abbrev pub Leads : List ℕ → Type 0
 Leads m = (loaded m).role ≡ Leader
 
 module _ (k : ℕ) (ps : List (List ℕ)) (o : List ℕ) (m : List ℕ) (f : Far) (r : Rests 1 0 k ps o m f) (low : k < 18446744073709551615) where
-  abbrev x : Machine
+  abbrev x : Machine Role
   x = loaded m
 
   long : Long m
@@ -37,7 +41,7 @@ module _ (k : ℕ) (ps : List (List ℕ)) (o : List ℕ) (m : List ℕ) (f : Far
   leads_led t =
       let f₁ = roomy_fits m r.going.holds.roomy in
       ap (λ y. (loaded y).role) (cond-true (empty_fits m) (stored (commit_raised (empty_appended m t) (empty_place m)) (in_term x t Leader)) (stored m (in_term x t (Follower (ticks 0)))) f₁)
-      ∙ ap (λ (y : Machine). y.role)
+      ∙ ap (λ (y : Machine Role). y.role)
       (loaded_stored (commit_raised (empty_appended m t) (empty_place m)) (in_term x t Leader) (length_commit_raised (empty_appended m t) (empty_place m) ∙ (length_empty m t long f₁ ∙ long))
       (record { some = (loaded_held m).some; waits = omega arith }))
 
@@ -73,7 +77,7 @@ module _ (k : ℕ) (ps : List (List ℕ)) (o : List ℕ) (m : List ℕ) (f : Far
             cond-true (ltb (older e).0 10) (stored m (with_role x (role (older e)))) (next_term_entered m x) (lt-ltb (older e).0 10 l) in
             let held : Held (with_role x (role (older e))) = record { some = (loaded_held m).some; waits = omega (arith, word (older e)) } in
             let now_role : (loaded (waited m x (older e) (role (older e)))).role ≡ role (older e) =
-            ap (λ y. (loaded y).role) shape ∙ ap (λ (y : Machine). y.role) (loaded_stored m (with_role x (role (older e))) long held) in
+            ap (λ y. (loaded y).role) shape ∙ ap (λ (y : Machine Role). y.role) (loaded_stored m (with_role x (role (older e))) long held) in
             inl (rw (now_role, is (older e)) (shrinks l))
         | inr l ↦
             inr

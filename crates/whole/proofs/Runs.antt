@@ -7,13 +7,15 @@ use Rattle.raft_log.proofs.AppendLaws.{roomy_last, appended_applied}
 use Rattle.raft_log.proofs.LogLaws.{commit_raised_applied}
 use Rattle.solo.specs.declared.header.Role.{Role}
 use Rattle.solo.specs.declared.header.Role.TheVariants.{Follower, Candidate, Leader}
-use Rattle.solo.specs.declared.header.Machine.{Machine}
-use Rattle.solo.specs.declared.proposal.Refusal.{Refusal}
-use Rattle.solo.specs.declared.proposal.Refusal.TheVariants.{NotNow, TooLong, Full}
+use Rattle.raft.specs.declared.header.Machine.{Machine}
+use Rattle.raft.specs.declared.proposal.Refusal.{Refusal}
+use Rattle.raft.specs.declared.proposal.Refusal.TheVariants.{NotNow, TooLong, Full}
 use Rattle.solo.specs.Header.{loaded}
 use Rattle.solo.specs.Power.{powered}
-use Rattle.solo.specs.Election.{most_of, ticked}
-use Rattle.solo.specs.Proposal.{refusal_number, with_unsettled, own_acked, taken, propose_as, proposed}
+use Rattle.solo.specs.Election.{ticked}
+use Rattle.raft.specs.Rows.{most_of}
+use Rattle.solo.specs.Proposal.{own_acked, taken, propose_as, proposed}
+use Rattle.raft.specs.Proposal.{refusal_number, with_unsettled}
 use Rattle.solo.proofs.HeaderLaws.{loaded_held, loaded_stored, length_stored, stored_applied}
 use Rattle.together.specs.House.{pick, or, every, propose, how_far, Far, far, all_in_turn, far_after, by_order, an_order, begins}
 use Rattle.together.specs.Promise.{Event, on, said, tick, next, shows, done, Step, Ran, ran, runs, one_act, are_bytes}
@@ -131,7 +133,7 @@ pub asked : (m v : List ℕ) → Asked m v
 unfolding proposed
 asked m v = size (ltb 256 (length v)) refl
   where
-    x : Machine
+    x : Machine Role
     x = loaded m
 
     answers : Bool → Role → Result (List ℕ) Refusal
@@ -298,7 +300,7 @@ module _ (many h k : ℕ) (ps : List (List ℕ)) (o : List ℕ) (ordered : an_or
       pub taken_unsettled : (loaded m₁).unsettled ≡ true
       unfolding taken
       taken_unsettled =
-          ap (λ (x : Machine). x.unsettled)
+          ap (λ (x : Machine Role). x.unsettled)
           (loaded_stored (own_acked (value_appended m (loaded m).term.0 v) (loaded m) (last_index m + 1)) (with_unsettled (loaded m))
           (sym (length_stored (own_acked (value_appended m (loaded m).term.0 v) (loaded m) (last_index m + 1)) (with_unsettled (loaded m))) ∙ taken_goes.holds.long)
           (record { some = (loaded_held m).some; waits = (loaded_held m).waits }))

@@ -6,17 +6,24 @@ use Rattle.raft_log.specs.Layout.{memory_words, entry_row, value_row}
 use Rattle.raft_log.specs.Values.{word_of, words_put, words_for, value_put}
 use Rattle.raft_log.specs.Entries.{last_index, commit_index, applied_number, values, decided, entry_pushed, value_fits, value_appended, empty_place, empty_fits, empty_appended, commit_rises, commit_raised, applied_set}
 use Rattle.raft_log.proofs.LogLaws.{last_most, applied_most, number_most}
-use Rattle.solo.specs.declared.header.Ticks.{Ticks}
+use Rattle.raft.specs.declared.header.Ticks.{Ticks}
 use Rattle.solo.specs.declared.header.Role.{Role}
 use Rattle.solo.specs.declared.header.Role.TheVariants.{Follower, Candidate, Leader}
-use Rattle.solo.specs.declared.header.Machine.{Machine}
-use Rattle.solo.specs.declared.proposal.Refusal.{Refusal}
-use Rattle.solo.specs.declared.proposal.Refusal.TheVariants.{TooLong, Full}
-use Rattle.solo.specs.Header.{ticks, role_word, elapsed_word, flag_word, loaded, stored}
-use Rattle.solo.specs.Power.{belongs, restarted, powered}
-use Rattle.solo.specs.Election.{older, with_role, in_term, led, campaigned, term_entered, next_term_entered, waited, tick_as, ticked, most_of, owner}
-use Rattle.solo.specs.Proposal.{with_unsettled, own_acked, taken, propose_as, proposed}
-use Rattle.solo.specs.Apply.{settled, applied_up_to, due, advanced}
+use Rattle.raft.specs.declared.header.Machine.{Machine}
+use Rattle.raft.specs.declared.proposal.Refusal.{Refusal}
+use Rattle.raft.specs.declared.proposal.Refusal.TheVariants.{TooLong, Full}
+use Rattle.solo.specs.Header.{role_word, elapsed_word, loaded, stored}
+use Rattle.raft.specs.Header.{ticks, flag_word}
+use Rattle.solo.specs.Power.{powered}
+use Rattle.raft.specs.Power.{belongs, restarted}
+use Rattle.solo.specs.Election.{led, campaigned, term_entered, next_term_entered, waited, tick_as, ticked}
+use Rattle.raft.specs.Header.{older, with_role, in_term}
+use Rattle.raft.specs.Rows.{most_of}
+use Rattle.raft.specs.Election.{owner}
+use Rattle.solo.specs.Proposal.{own_acked, taken, propose_as, proposed}
+use Rattle.raft.specs.Proposal.{with_unsettled}
+use Rattle.solo.specs.Apply.{advanced}
+use Rattle.raft.specs.Apply.{settled, applied_up_to, due}
 use Rattle.solo.proofs.HeaderLaws.{loaded_held, length_stored}
 use Rattle.together.specs.House.{every, propose, how_far}
 use Rattle.together.specs.Promise.{Steady, all_small, Event, on, said, came, tick, next, settle}
@@ -58,7 +65,7 @@ unfolding all_small
 kept_set m i x l = record { long = length-set m i x; small = λ h. every_set (λ y. ltb y limit) m i x (lt-ltb x limit (l h)) h }
 
 -- a struct whose numbers fit words
-pub record Small (x : Machine) : Type 0 where
+pub record Small (x : Machine Role) : Type 0 where
   pub size : x.size.0 < limit
   pub id : x.id.0 < limit
   pub term : x.term.0 < limit
@@ -74,7 +81,7 @@ flag_small : (b : Bool) → flag_word b < limit
 flag_small true = omega arith
 flag_small false = omega arith
 
-kept_stored : (m : List ℕ) (x : Machine) → (all_small m ≡ true → Small x) → Kept m (stored m x)
+kept_stored : (m : List ℕ) (x : Machine Role) → (all_small m ≡ true → Small x) → Kept m (stored m x)
 unfolding stored
 kept_stored m x s =
     record {
@@ -145,16 +152,16 @@ kept_applied m k l = kept_set m 66 k (λ _. l)
 kept_powered : (m : List ℕ) (i n : ℕ) → Kept m (powered m i n)
 unfolding powered
 kept_powered m i n =
-    cond_both (belongs i n) (applied_set (stored m (restarted (loaded m) i n)) (applied_number m - 1)) m (λ x. Kept m x)
+    cond_both (belongs i n) (applied_set (stored m (restarted (loaded m) i n (Follower (ticks 0)))) (applied_number m - 1)) m (λ x. Kept m x)
     (λ e.
     let b = and_parts (leb n 7) (ltb i n) e in
     let low : n ≤ 7 = leb-true n 7 b.0 in
     let at : i < n = ltb-true i n b.1 in
-    then_kept (kept_stored m (restarted (loaded m) i n) (λ h. record { size = omega arith; id = omega arith; term = (loaded_small m h).term; since = omega arith; waits = omega arith }))
+    then_kept (kept_stored m (restarted (loaded m) i n (Follower (ticks 0))) (λ h. record { size = omega arith; id = omega arith; term = (loaded_small m h).term; since = omega arith; waits = omega arith }))
     (kept_applied _ (applied_number m - 1) (omega (arith, applied_most m))))
     (λ _. kept m)
 
-module _ (m : List ℕ) (x : Machine) (small : all_small m ≡ true → Small x) where
+module _ (m : List ℕ) (x : Machine Role) (small : all_small m ≡ true → Small x) where
   -- another term or role
   small_in : (t : ℕ) (r : Role) → t < limit → elapsed_word r ≤ 10 → all_small m ≡ true → Small (in_term x t r)
   small_in t r a b h = record { size = (small h).size; id = (small h).id; term = a; since = (small h).since; waits = b }
@@ -163,7 +170,7 @@ module _ (m : List ℕ) (x : Machine) (small : all_small m ≡ true → Small x)
   small_role r b h = record { size = (small h).size; id = (small h).id; term = (small h).term; since = (small h).since; waits = b }
 
   -- the struct is stored over what m became
-  kept_over : (m₁ : List ℕ) (y : Machine) → Kept m m₁ → (all_small m ≡ true → Small y) → Kept m (stored m₁ y)
+  kept_over : (m₁ : List ℕ) (y : Machine Role) → Kept m m₁ → (all_small m ≡ true → Small y) → Kept m (stored m₁ y)
   kept_over m₁ y k s = record { long = length_stored m₁ y ∙ k.long; small = λ h. (kept_stored m₁ y (λ _. s h)).small (k.small h) }
 
   module _ (t : ℕ) (fits : t < limit) where

@@ -6,15 +6,11 @@ ghost use Rattle.together.specs.Promise.{Steady, Whole};
 ghost use Rattle.together.specs.Entry.{own};
 
 /// Memory never grows, and its numbers stay below 2^64, whatever is told to the machine.
-pub fn memory_is_steady() -> u8
+pub fn memory_is_steady()
     ensures { Steady own }
-{
-    0
-}
+{}
 
 /// Whatever happens to one to seven machines, nothing wrong is applied; and one that is alone goes on in calm.
-pub fn whole_stands() -> u8
+pub fn whole_stands()
     ensures { Whole false own }
-{
-    0
-}
+{}

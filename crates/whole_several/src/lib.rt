@@ -7,36 +7,26 @@ ghost use Rattle.together_several.specs.Entry.{own};
 ghost use Rattle.whole_several.specs.History.{SameNumber, OneVote, TermsLast};
 
 /// Memory never grows, and its numbers stay below 2^64, whatever is told to the machine.
-pub fn memory_is_steady() -> u8
+pub fn memory_is_steady()
     ensures { Steady own }
-{
-    0
-}
+{}
 
 /// Whatever happens to one to seven machines, nothing wrong is applied; and one that is alone goes on in calm.
-pub fn whole_stands() -> u8
+pub fn whole_stands()
     ensures { Whole false own }
-{
-    0
-}
+{}
 
 /// What was ever applied as the same number, by whichever machine and whenever, is the same.
-pub fn same_number_same_value() -> u8
+pub fn same_number_same_value()
     ensures { SameNumber }
-{
-    0
-}
+{}
 
 /// In one term a machine votes for one only, over any stop.
-pub fn one_vote_in_a_term() -> u8
+pub fn one_vote_in_a_term()
     ensures { OneVote }
-{
-    0
-}
+{}
 
 /// A machine never lowers its term, over any stop.
-pub fn terms_only_rise() -> u8
+pub fn terms_only_rise()
     ensures { TermsLast }
-{
-    0
-}
+{}
