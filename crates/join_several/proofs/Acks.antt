@@ -158,12 +158,12 @@ module _ (n id f : ℕ) (few : n ≤ 7) (sender : f < n) (other : f ≢ id) (m :
     r_stands up =
         record {
           tidy = header_tidy m r₁ r_long r_behind s.tidy;
-          size = ap (λ (y : Header). y.size.0) r_loaded ∙ s.size;
-          self = ap (λ (y : Header). y.id.0) r_loaded ∙ s.self;
-          term = ap (λ (y : Header). y.term.0) r_loaded ∙ s.term;
+          size = ap (λ (y : Header Kind). y.size.0) r_loaded ∙ s.size;
+          self = ap (λ (y : Header Kind). y.id.0) r_loaded ∙ s.self;
+          term = ap (λ (y : Header Kind). y.term.0) r_loaded ∙ s.term;
           log = ap lift_log (header_log m r₁ r_long r_behind) ∙ s.log;
           commit = commit_alike m r₁ r_long r_behind ∙ s.commit;
-          role = subst (λ (k : Kind). RoleStands n r₁ k x₁) (sym (ap (λ (y : Header). y.role) r_loaded ∙ role)) (r_leads up);
+          role = subst (λ (k : Kind). RoleStands n r₁ k x₁) (sym (ap (λ (y : Header Kind). y.role) r_loaded ∙ role)) (r_leads up);
         }
 
     r_says : p < b f → Handles n id m (said_to r₁ f Append) x (outcome x₁ (out f (append_at (conf n) x below) ∷ []))
@@ -175,9 +175,9 @@ module _ (n id f : ℕ) (few : n ≤ 7) (sender : f < n) (other : f ≢ id) (m :
           stands = stands_said r₁ f Append n id x₁ few st;
           told = says (out f (append_at (conf n) x below)) [] refl
               (posted_to r₁ (r_long ∙ long) f Append (omega arith) ∙ ap (λ (y : Letter (List ℕ)). out f y ∷ []) letter);
-          still_unsettled = λ u. ap (λ (y : Header). y.unsettled) e ∙ u;
+          still_unsettled = λ u. ap (λ (y : Header Kind). y.unsettled) e ∙ u;
           safe = λ u. record { term = refl; log = refl };
-          since = ap (λ (y : Header). y.since) e;
+          since = ap (λ (y : Header Kind). y.since) e;
           applied = said_applied r₁ f Append ∙ applied_alike m r₁ r_long r_behind;
         }
 
@@ -274,8 +274,8 @@ module _ (n id f : ℕ) (few : n ≤ 7) (sender : f < n) (other : f ≢ id) (m :
 
       stands₂ : Stands n id m₂ then
       stands₂ =
-          ready_stands n m₁ x a₁ b₁ few t s.term ready id (ap (λ (y : Header). y.size.0) loaded₁ ∙ s.size) (ap (λ (y : Header). y.id.0) loaded₁ ∙ s.self)
-          (ap (λ (y : Header). y.term.0) loaded₁ ∙ s.term) (ap (λ (y : Header). y.role) loaded₁ ∙ role)
+          ready_stands n m₁ x a₁ b₁ few t s.term ready id (ap (λ (y : Header Kind). y.size.0) loaded₁ ∙ s.size) (ap (λ (y : Header Kind). y.id.0) loaded₁ ∙ s.self)
+          (ap (λ (y : Header Kind). y.term.0) loaded₁ ∙ s.term) (ap (λ (y : Header Kind). y.role) loaded₁ ∙ role)
 
       loaded₂ : loaded m₂ ≡ loaded m
       loaded₂ = loaded_alike m₁ m₂ (λ j l. maybe_other m₁ n t j (omega arith)) ∙ loaded₁
@@ -294,9 +294,9 @@ module _ (n id f : ℕ) (few : n ≤ 7) (sender : f < n) (other : f ≢ id) (m :
             stands = stands_said_others m₂ (loaded m) Append n id then few stands₂;
             told = told_some m (said_to_others m₂ (loaded m) Append) (broadcast (conf n) id (λ j. append_at (conf n) then (b₁ j)))
                 (others_some id f (λ j. append_at (conf n) then (b₁ j)) n sender other) (posted_appends n id m₂ then (loaded m) a₁ b₁ few stands₂ s.size s.self refl);
-            still_unsettled = λ u. ap (λ (y : Header). y.unsettled) e ∙ u;
+            still_unsettled = λ u. ap (λ (y : Header Kind). y.unsettled) e ∙ u;
             safe = λ u. record { term = refl; log = refl };
-            since = ap (λ (y : Header). y.since) e;
+            since = ap (λ (y : Header Kind). y.since) e;
             applied = said_others_applied m₂ (loaded m) Append ∙ applied₂;
           }
 
@@ -311,9 +311,9 @@ module _ (n id f : ℕ) (few : n ≤ 7) (sender : f < n) (other : f ≢ id) (m :
             stands = stands_said m₂ f Append n id then few stands₂;
             told = says (out f (append_at (conf n) x next₁)) [] refl
                 (posted_to m₂ stands₂.tidy.entries.long f Append (omega arith) ∙ ap (λ (y : Letter (List ℕ)). out f y ∷ []) letter);
-            still_unsettled = λ u. ap (λ (y : Header). y.unsettled) e ∙ u;
+            still_unsettled = λ u. ap (λ (y : Header Kind). y.unsettled) e ∙ u;
             safe = λ u. record { term = refl; log = refl };
-            since = ap (λ (y : Header). y.since) e;
+            since = ap (λ (y : Header Kind). y.since) e;
             applied = said_applied m₂ f Append ∙ applied₂;
           }
 
@@ -324,9 +324,9 @@ module _ (n id f : ℕ) (few : n ≤ 7) (sender : f < n) (other : f ≢ id) (m :
           record {
             stands = stands₂;
             told = keeps refl (posted_quiet m₂ none₂ ∙ sym (posted_quiet m none));
-            still_unsettled = λ u. ap (λ (y : Header). y.unsettled) loaded₂ ∙ u;
+            still_unsettled = λ u. ap (λ (y : Header Kind). y.unsettled) loaded₂ ∙ u;
             safe = λ u. record { term = refl; log = refl };
-            since = ap (λ (y : Header). y.since) loaded₂;
+            since = ap (λ (y : Header Kind). y.since) loaded₂;
             applied = applied₂;
           }
 

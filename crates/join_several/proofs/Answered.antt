@@ -3,6 +3,7 @@ use Rattle.std.proofs.Common.{◌≡◌, ℕ, ◌<◌, ◌≤◌, ◌≢◌, Lis
 use Rattle.std.proofs.lemmas.List.{get_or-set_other}
 use Rattle.raft_log.specs.Entries.{applied_number}
 use Rattle.raft_log.proofs.LogLaws.{same_applied}
+use Rattle.raft.specs.declared.header.Role.{Role}
 use Rattle.raft.specs.declared.header.Machine.{Machine as Header}
 use Rattle.raft.specs.declared.say.Due.{Due}
 use Rattle.raft.specs.Header.{loaded, stored}
@@ -36,5 +37,5 @@ pub answered_applied : (m : List ℕ) (j : ℕ) (d : Due) (a b : ℕ) → applie
 answered_applied m j d a b =
     same_applied m (answered m j d a b) (answered_other m j d a b 66 (omega arith) (omega arith) ∙ said_behind m j d 66 (omega arith))
 
-pub stored_applied : (m : List ℕ) (y : Header) → applied_number (stored m y) ≡ applied_number m
+pub stored_applied : (m : List ℕ) (y : Header Role) → applied_number (stored m y) ≡ applied_number m
 stored_applied m y = same_applied m (stored m y) (stored_other m y 66 (omega arith))

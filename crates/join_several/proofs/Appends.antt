@@ -17,6 +17,7 @@ use Rattle.raft_log.proofs.ConflictLaws.{conflict_within}
 use Rattle.raft_log.proofs.TakeLaws.{entries_fit_from}
 use Rattle.raft_log.proofs.MergeLaws.{prev_within, merges_none, merges_some, conflict_has, spliced_merge}
 use Rattle.raft_log.proofs.AcceptLaws.{accepted_merge, accepted_header, accepted_commit_up, accepted_tidy}
+use Rattle.raft.specs.declared.header.Role.{Role}
 use Rattle.raft.specs.declared.header.Machine.{Machine as Header}
 use Rattle.raft.specs.declared.say.Due.TheVariants.{Accept, Reject}
 use Rattle.raft.specs.Header.{loaded, stored}
@@ -112,7 +113,7 @@ module _ (n id : ℕ) (m : List ℕ) (x : Machine (List ℕ)) (f p q k : ℕ) (e
       let is : loaded refused_memory ≡ heard_from (loaded m) false = loaded_stored m (heard_from (loaded m) false) s.tidy.entries.long (heard_held m false) in
       let head : loaded (answered refused_memory f Reject p (row_hint (log_of m) p q)) ≡ heard_from (loaded m) false =
       answered_loaded refused_memory f Reject p (row_hint (log_of m) p q) ∙ is in
-      let t : (loaded refused_memory).term.0 ≡ x.term = ap (λ (y : Header). y.term.0) is ∙ s.term in
+      let t : (loaded refused_memory).term.0 ≡ x.term = ap (λ (y : Header Role). y.term.0) is ∙ s.term in
       let h : row_hint (log_of m) p q ≡ hint (conf n) x.log p q = lift_hint n (log_of m) p q ∙ ap (λ (l : Log (List ℕ)). hint (conf n) l p q) s.log in
       let now : Machine (List ℕ) = refusing.now in
       let stands : Stands n id refused_memory now =
@@ -122,9 +123,9 @@ module _ (n id : ℕ) (m : List ℕ) (x : Machine (List ℕ)) (f p q k : ℕ) (e
         stands = stands_answered refused_memory f Reject p (row_hint (log_of m) p q) n id now few stands;
         told = says (out f (reject x.term p (hint (conf n) x.log p q))) [] refl
             (posted_reject refused_memory long f p (row_hint (log_of m) p q) (omega arith) ∙ (λ i. out f (reject (t i) p (h i)) ∷ []));
-        still_unsettled = λ u. ap (λ (y : Header). y.unsettled) head ∙ or_left (loaded m).unsettled false u;
+        still_unsettled = λ u. ap (λ (y : Header Role). y.unsettled) head ∙ or_left (loaded m).unsettled false u;
         safe = λ u. record { term = refl; log = refl };
-        since = ap (λ (y : Header). y.since) head;
+        since = ap (λ (y : Header Role). y.since) head;
         applied = answered_applied refused_memory f Reject p (row_hint (log_of m) p q) ∙ stored_applied m (heard_from (loaded m) false);
       }
 
@@ -160,13 +161,13 @@ module _ (n id : ℕ) (m : List ℕ) (x : Machine (List ℕ)) (f p q k : ℕ) (e
 
     taken : Handles n id m (answered taken_memory f Accept (p + length es) 0) x taking
     taken =
-        let y : Header = heard_from (loaded m) (log_changes m p es) in
+        let y : Header Role = heard_from (loaded m) (log_changes m p es) in
         let m₁ : List ℕ = accepted m p k es in
         let tidy : Tidy m₁ = accepted_tidy m p q k es s.tidy valid accepts_it in
         let long : length taken_memory ≡ memory_words = length_stored m₁ y ∙ tidy.entries.long in
         let is : loaded taken_memory ≡ y = loaded_stored m₁ y tidy.entries.long (heard_held m (log_changes m p es)) in
         let head : loaded (answered taken_memory f Accept (p + length es) 0) ≡ y = answered_loaded taken_memory f Accept (p + length es) 0 ∙ is in
-        let t : (loaded taken_memory).term.0 ≡ x.term = ap (λ (z : Header). z.term.0) is ∙ s.term in
+        let t : (loaded taken_memory).term.0 ≡ x.term = ap (λ (z : Header Role). z.term.0) is ∙ s.term in
         let i₁ : p + length es ≡ p + length (lift_log es) = omega (arith, lift_length es) in
         let stands : Stands n id taken_memory taking.now =
         stands_stored n id m₁ y taking.now few tidy (heard_held m (log_changes m p es)) s.size s.self s.term taken_log taken_commit
@@ -175,11 +176,11 @@ module _ (n id : ℕ) (m : List ℕ) (x : Machine (List ℕ)) (f p q k : ℕ) (e
           stands = stands_answered taken_memory f Accept (p + length es) 0 n id taking.now few stands;
           told = says (out f (ack x.term (p + length (lift_log es)))) [] refl
               (posted_accept taken_memory long f (p + length es) 0 (omega arith) ∙ (λ i. out f (ack (t i) (i₁ i)) ∷ []));
-          still_unsettled = λ u. ap (λ (z : Header). z.unsettled) head ∙ or_left (loaded m).unsettled (log_changes m p es) u;
+          still_unsettled = λ u. ap (λ (z : Header Role). z.unsettled) head ∙ or_left (loaded m).unsettled (log_changes m p es) u;
           safe = λ u.
-              let c = or_parts (loaded m).unsettled (log_changes m p es) (sym (ap (λ (z : Header). z.unsettled) head) ∙ u) in
+              let c = or_parts (loaded m).unsettled (log_changes m p es) (sym (ap (λ (z : Header Role). z.unsettled) head) ∙ u) in
               record { term = refl; log = sym s.log ∙ (ap lift_log (sym (unchanged m p es (prev_within m p q prev) c.1)) ∙ merge_same) };
-          since = ap (λ (z : Header). z.since) head;
+          since = ap (λ (z : Header Role). z.since) head;
           applied = answered_applied taken_memory f Accept (p + length es) 0
               ∙ (stored_applied m₁ y ∙ same_applied m m₁ (accepted_header m p q k es s.tidy valid accepts_it 66 (omega arith) (omega arith) (omega arith)));
         }

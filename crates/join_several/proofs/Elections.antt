@@ -13,7 +13,8 @@ use Rattle.raft.specs.declared.say.Due.TheVariants.{RequestVote, TellTerm}
 use Rattle.raft.specs.Header.{ticks, loaded, stored}
 use Rattle.raft.specs.Rows.{row_set, only, others, most_of}
 use Rattle.raft.specs.Say.{due_word, said_to_others, said_to}
-use Rattle.raft.specs.Election.{owner as owner_at, in_term, led, stood, campaigned, told, followed, term_entered}
+use Rattle.raft.specs.Header.{in_term}
+use Rattle.raft.specs.Election.{owner as owner_at, led, stood, campaigned, told, followed, term_entered}
 use Rattle.raft.proofs.HeaderLaws.{Held, loaded_held, loaded_stored, loaded_alike, length_stored, stored_other}
 use Rattle.raft.proofs.RowLaws.{length_row_put, row_put_other, row_put_same}
 use Rattle.protocol.specs.Lists.{pick}
@@ -62,7 +63,7 @@ pub one_is_most : (n id : ℕ) → n ≡ 1 → id < n → is_majority (conf n) (
 one_is_most n id alone l = one_vote n id l ∙ lt-ltb n 2 (omega arith)
 
 -- what is said leaves the log
-pub said_log : (m : List ℕ) (h : Header) (d : Due) → log_of (said_to_others m h d) ≡ log_of m
+pub said_log : (m : List ℕ) (h : Header Kind) (d : Due) → log_of (said_to_others m h d) ≡ log_of m
 unfolding said_to_others
 said_log m h d = header_log m (row_set m 29 (others h (due_word d))) (due_row_long m (others h (due_word d))) (λ i l. due_row_behind m (others h (due_word d)) i (omega arith))
 
@@ -72,17 +73,17 @@ told_log m j d = header_log m (row_set m 29 (only j (due_word d))) (due_row_long
 
 -- OTHER WORDS BEFORE THE LOG: what memory stands for then
 pub stands_from :
-    (n id : ℕ) (m m₁ : List ℕ) (y : Header) (x : Machine (List ℕ)) → length m₁ ≡ length m → ((i : ℕ) → 64 ≤ i → get_or m₁ i 0 ≡ get_or m i 0) → loaded m₁ ≡ y →
+    (n id : ℕ) (m m₁ : List ℕ) (y : Header Kind) (x : Machine (List ℕ)) → length m₁ ≡ length m → ((i : ℕ) → 64 ≤ i → get_or m₁ i 0 ≡ get_or m i 0) → loaded m₁ ≡ y →
     Tidy m → y.size.0 ≡ n → y.id.0 ≡ id → y.term.0 ≡ x.term → lift_log (log_of m) ≡ x.log → commit_index m ≡ x.commit → RoleStands n m₁ y.role x → Stands n id m₁ x
 stands_from n id m m₁ y x long behind e tidy size self term log commit role =
     record {
       tidy = header_tidy m m₁ long behind tidy;
-      size = ap (λ (z : Header). z.size.0) e ∙ size;
-      self = ap (λ (z : Header). z.id.0) e ∙ self;
-      term = ap (λ (z : Header). z.term.0) e ∙ term;
+      size = ap (λ (z : Header Kind). z.size.0) e ∙ size;
+      self = ap (λ (z : Header Kind). z.id.0) e ∙ self;
+      term = ap (λ (z : Header Kind). z.term.0) e ∙ term;
       log = ap lift_log (header_log m m₁ long behind) ∙ log;
       commit = commit_alike m m₁ long behind ∙ commit;
-      role = subst (λ (k : Kind). RoleStands n m₁ k x) (sym (ap (λ (z : Header). z.role) e)) role;
+      role = subst (λ (k : Kind). RoleStands n m₁ k x) (sym (ap (λ (z : Header Kind). z.role) e)) role;
     }
 
 -- A TERM IS ENTERED: what memory is then, against what the theory makes of x
@@ -103,7 +104,7 @@ flag_vote true = refl
 flag_vote false = refl
 
 module _ (n id : ℕ) (m : List ℕ) (x : Machine (List ℕ)) (least : 1 ≤ n) (few : n ≤ 7) (own : id < n) (s : Stands n id m x) (t : ℕ) where
-  abbrev h : Header
+  abbrev h : Header Kind
   h = loaded m
 
   long : length m ≡ memory_words
@@ -156,8 +157,8 @@ module _ (n id : ℕ) (m : List ℕ) (x : Machine (List ℕ)) (least : 1 ≤ n) 
         stands = stands_said_others voted h RequestVote n id stander few voted_stands;
         sent = posted_others voted (voted_long ∙ long) h n id RequestVote few s.size s.self
             ∙ to_others_cong id (letter_of voted RequestVote) (λ _. request_of (as_follower x t)) n (λ j l. made_request n id voted stander voted_stands j);
-        unsettled = ap (λ (y : Header). y.unsettled) e;
-        since = ap (λ (y : Header). y.since) e;
+        unsettled = ap (λ (y : Header Kind). y.unsettled) e;
+        since = ap (λ (y : Header Kind). y.since) e;
         applied = said_others_applied voted h RequestVote ∙ applied_alike m voted voted_long voted_behind;
       }
 
@@ -191,8 +192,8 @@ module _ (n id : ℕ) (m : List ℕ) (x : Machine (List ℕ)) (least : 1 ≤ n) 
         stands = stands_said_others down h TellTerm n id (as_follower x t) few down_stands;
         sent = posted_others down down_long h n id TellTerm few s.size s.self
             ∙ to_others_cong id (letter_of down TellTerm) (λ _. here t) n (λ j l. made_here n id down (as_follower x t) down_stands j);
-        unsettled = ap (λ (y : Header). y.unsettled) e;
-        since = ap (λ (y : Header). y.since) e;
+        unsettled = ap (λ (y : Header Kind). y.unsettled) e;
+        since = ap (λ (y : Header Kind). y.since) e;
         applied = said_others_applied down h TellTerm ∙ down_applied;
       }
   followed_by false =
@@ -203,8 +204,8 @@ module _ (n id : ℕ) (m : List ℕ) (x : Machine (List ℕ)) (least : 1 ≤ n) 
         stands = stands_said down j TellTerm n id (as_follower x t) few down_stands;
         sent = posted_to down down_long j TellTerm (omega (arith, is, owner_least n t least))
             ∙ (ap (λ (y : Letter (List ℕ)). out j y ∷ []) (made_here n id down (as_follower x t) down_stands j) ∙ ap (λ (k : ℕ). out k (here t) ∷ []) is);
-        unsettled = ap (λ (y : Header). y.unsettled) e;
-        since = ap (λ (y : Header). y.since) e;
+        unsettled = ap (λ (y : Header Kind). y.unsettled) e;
+        since = ap (λ (y : Header Kind). y.since) e;
         applied = said_applied down j TellTerm ∙ down_applied;
       }
 

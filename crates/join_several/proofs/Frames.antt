@@ -50,12 +50,12 @@ module _ (m m₁ : List ℕ) (long : length m₁ ≡ length m) (before : (i : �
   stands_alike n id x few s =
       record {
         tidy = header_tidy m m₁ long behind s.tidy;
-        size = ap (λ (y : Header). y.size.0) loaded_same ∙ s.size;
-        self = ap (λ (y : Header). y.id.0) loaded_same ∙ s.self;
-        term = ap (λ (y : Header). y.term.0) loaded_same ∙ s.term;
+        size = ap (λ (y : Header Kind). y.size.0) loaded_same ∙ s.size;
+        self = ap (λ (y : Header Kind). y.id.0) loaded_same ∙ s.self;
+        term = ap (λ (y : Header Kind). y.term.0) loaded_same ∙ s.term;
         log = ap lift_log (header_log m m₁ long behind) ∙ s.log;
         commit = commit_alike m m₁ long behind ∙ s.commit;
-        role = subst (λ (k : Kind). RoleStands n m₁ k x) (sym (ap (λ (y : Header). y.role) loaded_same)) (role_alike n m m₁ (loaded m).role x few (λ i a b. before i b) s.role);
+        role = subst (λ (k : Kind). RoleStands n m₁ k x) (sym (ap (λ (y : Header Kind). y.role) loaded_same)) (role_alike n m m₁ (loaded m).role x few (λ i a b. before i b) s.role);
       }
 
 -- letters that are due
@@ -72,7 +72,7 @@ module _ (m : List ℕ) (f : ℕ → ℕ) where
   pub stands_row : (n id : ℕ) (x : Machine (List ℕ)) → n ≤ 7 → Stands n id m x → Stands n id (row_set m 29 f) x
   stands_row n id x few s = stands_alike m (row_set m 29 f) due_row_long due_row_before (λ i l. due_row_behind i (omega arith)) n id x few s
 
-pub stands_said_others : (m : List ℕ) (h : Header) (d : Due) (n id : ℕ) (x : Machine (List ℕ)) → n ≤ 7 → Stands n id m x → Stands n id (said_to_others m h d) x
+pub stands_said_others : (m : List ℕ) (h : Header Kind) (d : Due) (n id : ℕ) (x : Machine (List ℕ)) → n ≤ 7 → Stands n id m x → Stands n id (said_to_others m h d) x
 unfolding said_to_others
 stands_said_others m h d n id x few s = stands_row m _ n id x few s
 
@@ -91,7 +91,7 @@ stands_answered m j d a b n id x few s =
 
 -- A NEW STRUCT over a memory whose log and rows are right
 pub stands_stored :
-    (n id : ℕ) (m : List ℕ) (y : Header) (x : Machine (List ℕ)) → n ≤ 7 → Tidy m → Held y → y.size.0 ≡ n → y.id.0 ≡ id → y.term.0 ≡ x.term →
+    (n id : ℕ) (m : List ℕ) (y : Header Kind) (x : Machine (List ℕ)) → n ≤ 7 → Tidy m → Held y → y.size.0 ≡ n → y.id.0 ≡ id → y.term.0 ≡ x.term →
     lift_log (log_of m) ≡ x.log → commit_index m ≡ x.commit → RoleStands n m y.role x → Stands n id (stored m y) x
 stands_stored n id m y x few tidy held size self term log commit role =
     let behind : (i : ℕ) → 64 ≤ i → get_or (stored m y) i 0 ≡ get_or m i 0 = λ i l. stored_other m y i (omega arith) in
@@ -99,10 +99,10 @@ stands_stored n id m y x few tidy held size self term log commit role =
     let e = loaded_stored m y tidy.entries.long held in
     record {
       tidy = header_tidy m (stored m y) long behind tidy;
-      size = ap (λ (z : Header). z.size.0) e ∙ size;
-      self = ap (λ (z : Header). z.id.0) e ∙ self;
-      term = ap (λ (z : Header). z.term.0) e ∙ term;
+      size = ap (λ (z : Header Kind). z.size.0) e ∙ size;
+      self = ap (λ (z : Header Kind). z.id.0) e ∙ self;
+      term = ap (λ (z : Header Kind). z.term.0) e ∙ term;
       log = ap lift_log (header_log m (stored m y) long behind) ∙ log;
       commit = commit_alike m (stored m y) long behind ∙ commit;
-      role = subst (λ (k : Kind). RoleStands n (stored m y) k x) (sym (ap (λ (z : Header). z.role) e)) (role_alike n m (stored m y) y.role x few (λ i a b. stored_other m y i a) role);
+      role = subst (λ (k : Kind). RoleStands n (stored m y) k x) (sym (ap (λ (z : Header Kind). z.role) e)) (role_alike n m (stored m y) y.role x few (λ i a b. stored_other m y i a) role);
     }

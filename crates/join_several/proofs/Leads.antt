@@ -18,7 +18,8 @@ use Rattle.raft.specs.Header.{ticks, loaded, stored}
 use Rattle.raft.specs.Rows.{row_set, only}
 use Rattle.raft.specs.Say.{said_to_others}
 use Rattle.raft.specs.Commit.{maybe_committed}
-use Rattle.raft.specs.Election.{in_term, rows_begun, led_with_room, led}
+use Rattle.raft.specs.Header.{in_term}
+use Rattle.raft.specs.Election.{rows_begun, led_with_room, led}
 use Rattle.raft.proofs.HeaderLaws.{Held, loaded_stored, loaded_alike}
 use Rattle.raft.proofs.RowLaws.{length_row_put, row_put_other, row_put_same}
 use Rattle.protocol.specs.Lists.{upd}
@@ -85,7 +86,7 @@ module _ (n : ℕ) (m : List ℕ) (z : Machine (List ℕ)) (a b : ℕ → ℕ) (
 
   -- with a new struct
   pub ready_stored :
-      (id : ℕ) (h : Header) → Held h → h.size.0 ≡ n → h.id.0 ≡ id → h.term.0 ≡ z.term → h.role ≡ Leader →
+      (id : ℕ) (h : Header Kind) → Held h → h.size.0 ≡ n → h.id.0 ≡ id → h.term.0 ≡ z.term → h.role ≡ Leader →
       Stands n id (stored (maybe_committed m n t) h) (leading (conf n) z a b)
   ready_stored id h held size self term role =
       stands_stored n id (maybe_committed m n t) h (leading (conf n) z a b) few (maybe_tidy m n t r.tidy) held size self term (ap lift_log (maybe_log m n t) ∙ r.log) ready_commit
@@ -99,28 +100,28 @@ module _ (n : ℕ) (m : List ℕ) (z : Machine (List ℕ)) (a b : ℕ → ℕ) (
       let e : loaded (maybe_committed m n t) ≡ loaded m = loaded_alike m (maybe_committed m n t) (λ i l. maybe_other m n t i (omega arith)) in
       record {
         tidy = maybe_tidy m n t r.tidy;
-        size = ap (λ (y : Header). y.size.0) e ∙ size;
-        self = ap (λ (y : Header). y.id.0) e ∙ self;
-        term = ap (λ (y : Header). y.term.0) e ∙ term;
+        size = ap (λ (y : Header Kind). y.size.0) e ∙ size;
+        self = ap (λ (y : Header Kind). y.id.0) e ∙ self;
+        term = ap (λ (y : Header Kind). y.term.0) e ∙ term;
         log = ap lift_log (maybe_log m n t) ∙ r.log;
         commit = ready_commit;
-        role = subst (λ (k : Kind). RoleStands n (maybe_committed m n t) k (leading (conf n) z a b)) (sym (ap (λ (y : Header). y.role) e ∙ role)) ready_leads;
+        role = subst (λ (k : Kind). RoleStands n (maybe_committed m n t) k (leading (conf n) z a b)) (sym (ap (λ (y : Header Kind). y.role) e ∙ role)) ready_leads;
       }
 
 -- APPENDS TO ALL OTHERS are due
 pub posted_appends :
-    (n id : ℕ) (m : List ℕ) (x : Machine (List ℕ)) (h : Header) (a b : ℕ → ℕ) → n ≤ 7 → Stands n id m x → h.size.0 ≡ n → h.id.0 ≡ id → x.role ≡ leader a b →
+    (n id : ℕ) (m : List ℕ) (x : Machine (List ℕ)) (h : Header Kind) (a b : ℕ → ℕ) → n ≤ 7 → Stands n id m x → h.size.0 ≡ n → h.id.0 ≡ id → x.role ≡ leader a b →
     posted (said_to_others m h Append) ≡ broadcast (conf n) id (λ j. append_at (conf n) x (b j))
 posted_appends n id m x h a b few s size self is =
     posted_others m s.tidy.entries.long h n id Append few size self
     ∙ to_others_cong id (letter_of m Append) (λ j. append_at (conf n) x (b j)) n (λ j l. made_append n id m x s a b is j l)
 
 -- what is said leaves the struct and what was applied
-pub said_others_loaded : (m : List ℕ) (h : Header) (d : Due) → loaded (said_to_others m h d) ≡ loaded m
+pub said_others_loaded : (m : List ℕ) (h : Header Kind) (d : Due) → loaded (said_to_others m h d) ≡ loaded m
 unfolding said_to_others
 said_others_loaded m h d = loaded_alike m (said_to_others m h d) (λ i l. due_row_before m _ i (omega arith))
 
-pub said_others_applied : (m : List ℕ) (h : Header) (d : Due) → applied_number (said_to_others m h d) ≡ applied_number m
+pub said_others_applied : (m : List ℕ) (h : Header Kind) (d : Due) → applied_number (said_to_others m h d) ≡ applied_number m
 unfolding said_to_others
 said_others_applied m h d = applied_alike m (said_to_others m h d) (due_row_long m _) (λ i l. due_row_behind m _ i (omega arith))
 
@@ -155,14 +156,14 @@ upd_most id i j =
     elim (cases_eq j id) [ inl e ↦ omega (arith, upd_at (λ _. 0) id i j e) | inr ne ↦ omega (arith, upd_other (λ _. 0) id i j ne) ]
 
 -- A NEW LEADER'S MEMORY
-pub record LeadsNow (n id : ℕ) (m : List ℕ) (h : Header) (m₁ : List ℕ) (y : Machine (List ℕ)) : Type 0 where
+pub record LeadsNow (n id : ℕ) (m : List ℕ) (h : Header Kind) (m₁ : List ℕ) (y : Machine (List ℕ)) : Type 0 where
   pub stands : Stands n id m₁ (new_leader (conf n) id y)
   pub sent : posted m₁ ≡ (become_leader (conf n) id y).sent
   pub unsettled : (loaded m₁).unsettled ≡ true
   pub since : (loaded m₁).since ≡ h.since
   pub applied : applied_number m₁ ≡ applied_number m
 
-module _ (n id : ℕ) (m : List ℕ) (h : Header) (t : ℕ) (y : Machine (List ℕ)) (few : n ≤ 7) (tidy : Tidy m) (held : Held h) (size : h.size.0 ≡ n) (self : h.id.0 ≡ id)
+module _ (n id : ℕ) (m : List ℕ) (h : Header Kind) (t : ℕ) (y : Machine (List ℕ)) (few : n ≤ 7) (tidy : Tidy m) (held : Held h) (size : h.size.0 ≡ n) (self : h.id.0 ≡ id)
     (own : y.term ≡ t) (log : lift_log (log_of m) ≡ y.log) (commit : commit_index m ≡ y.commit) (room : Room (new_leader (conf n) id y)) where
   place_is : empty_place m ≡ length (renew y.term y.log)
   place_is =
@@ -240,8 +241,8 @@ module _ (n id : ℕ) (m : List ℕ) (h : Header) (t : ℕ) (y : Machine (List �
         stands = stands_said_others m₃ h Append n id (new_leader (conf n) id y) few stands₃;
         sent =
             posted_appends n id m₃ (new_leader (conf n) id y) h (upd (λ _. 0) id (length (renew y.term y.log))) (λ _. length (renew y.term y.log)) few stands₃ size self refl;
-        unsettled = ap (λ (z : Header). z.unsettled) e;
-        since = ap (λ (z : Header). z.since) e;
+        unsettled = ap (λ (z : Header Kind). z.unsettled) e;
+        since = ap (λ (z : Header Kind). z.since) e;
         applied = said_others_applied m₃ h Append ∙ applied₃;
       }
 

@@ -18,7 +18,8 @@ use Rattle.raft.specs.declared.say.Due.TheVariants.{Append, RequestVote, TellTer
 use Rattle.raft.specs.Header.{loaded}
 use Rattle.raft.specs.Rows.{row_set, only, others}
 use Rattle.raft.specs.Say.{due_word, said_to_others, said_to, answered}
-use Rattle.raft.specs.Outbox.{Mail, mail_due, due_of, due_to, prev_of, count_of, letter_made, mail_at, mail_from}
+use Rattle.raft.specs.Say.{due_of}
+use Rattle.raft.specs.Outbox.{Mail, mail_due, due_to, prev_of, count_of, letter_made, mail_at, mail_from}
 use Rattle.raft.proofs.HeaderLaws.{loaded_alike}
 use Rattle.raft.proofs.RowLaws.{row_put_same}
 use Rattle.protocol.specs.Lists.{pick}
@@ -239,14 +240,14 @@ module _ (m : List ℕ) (long : length m ≡ memory_words) where
   -- a row of what is due leaves the letters themselves
   row_letters : (f : ℕ → ℕ) (d : Due) (j : ℕ) → j < 7 → letter_of (row_set m 29 f) d j ≡ letter_of m d j
   row_letters f =
-      letter_alike m (row_set m 29 f) (ap (λ (y : Header). y.term.0) (loaded_alike m (row_set m 29 f) (λ i l. due_row_before m f i (omega arith))))
+      letter_alike m (row_set m 29 f) (ap (λ (y : Header Kind). y.term.0) (loaded_alike m (row_set m 29 f) (λ i l. due_row_before m f i (omega arith))))
       (λ i a b. due_row_before m f i b) (due_row_behind m f 36 (omega arith)) (due_row_behind m f 37 (omega arith)) (λ i l. due_row_behind m f i (omega arith))
 
   row_word : (f : ℕ → ℕ) (j : ℕ) → j < 7 → get_or (row_set m 29 f) (29 + j) 0 ≡ f j
   row_word f j l = row_put_same m 29 f 7 j l (omega arith)
 
   pub posted_others :
-      (h : Header) (n id : ℕ) (d : Due) → n ≤ 7 → h.size.0 ≡ n → h.id.0 ≡ id → posted (said_to_others m h d) ≡ to_others id (letter_of m d) n
+      (h : Header Kind) (n id : ℕ) (d : Due) → n ≤ 7 → h.size.0 ≡ n → h.id.0 ≡ id → posted (said_to_others m h d) ≡ to_others id (letter_of m d) n
   unfolding said_to_others
   posted_others h n id d few size self =
       posted_all (row_set m 29 (others h (due_word d))) n id d few
@@ -288,7 +289,7 @@ module _ (m : List ℕ) (long : length m ≡ memory_words) where
     pub answered_term : (loaded (answered m j d a b)).term.0 ≡ (loaded m).term.0
     unfolding answered said_to
     answered_term =
-        ap (λ (y : Header). y.term.0) (loaded_alike m with_numbers (λ i p. other i (omega arith) (omega arith) ∙ due_row_before m (only j (due_word d)) i (omega arith)))
+        ap (λ (y : Header Kind). y.term.0) (loaded_alike m with_numbers (λ i p. other i (omega arith) (omega arith) ∙ due_row_before m (only j (due_word d)) i (omega arith)))
 
     pub answered_first : get_or (answered m j d a b) 36 0 ≡ a
     unfolding answered said_to

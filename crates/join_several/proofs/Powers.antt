@@ -1,13 +1,15 @@
 -- Power comes back: memory stands for the machine that restarts with what was safe.
-use Rattle.std.proofs.Common.{◌≡◌, ℕ, ◌-◌, ◌<◌, ◌≤◌, true, ltb, leb, List, length, get_or, sym, refl, ap, ◌∙◌, subst, arith}
+use Rattle.std.proofs.Common.{◌≡◌, ℕ, ◌-◌, ◌<◌, ◌≤◌, true, false, ltb, leb, List, length, get_or, sym, refl, ap, ◌∙◌, subst, arith}
 use Rattle.std.proofs.lemmas.Bool.{leb-true, ltb-true, and_parts, cond-true}
 use Rattle.raft_log.specs.Layout.{memory_words}
 use Rattle.raft_log.specs.View.{log_of, Tidy}
 use Rattle.raft_log.specs.Entries.{commit_index, applied_number, applied_set}
 use Rattle.raft_log.proofs.LogLaws.{applied_most, applied_set_other, applied_set_commit, applied_set_applied}
 use Rattle.raft_log.proofs.LogChanges.{header_log, header_tidy, applied_set_log, applied_set_tidy}
+use Rattle.raft.specs.declared.header.Role.{Role}
+use Rattle.raft.specs.declared.header.Role.TheVariants.{Follower}
 use Rattle.raft.specs.declared.header.Machine.{Machine as Header}
-use Rattle.raft.specs.Header.{loaded, stored}
+use Rattle.raft.specs.Header.{ticks, loaded, stored}
 use Rattle.raft.specs.Rows.{row_set}
 use Rattle.raft.specs.Power.{belongs, restarted, powered}
 use Rattle.raft.proofs.HeaderLaws.{Held, loaded_stored, loaded_alike, length_stored, stored_other}
@@ -33,8 +35,8 @@ module _ (n id : ℕ) (s : List ℕ) (k : Persistent (List ℕ)) (tidy : Tidy s)
   low : id < n
   low = ltb-true id n (and_parts (leb n 7) (ltb id n) known).1
 
-  abbrev h : Header
-  h = restarted (loaded s) id n
+  abbrev h : Header Role
+  h = restarted (loaded s) id n (Follower (ticks 0) false)
 
   held : Held h
   held = record { some = some; few = few; one = omega (arith, low, few); waits = omega arith }
@@ -64,16 +66,16 @@ module _ (n id : ℕ) (s : List ℕ) (k : Persistent (List ℕ)) (tidy : Tidy s)
   stands₂ =
       record {
         tidy = applied_set_tidy s₁ (applied_number s - 1) back (header_tidy s s₁ (length_stored s h) behind₁ tidy);
-        size = ap (λ (y : Header). y.size.0) loaded₂;
-        self = ap (λ (y : Header). y.id.0) loaded₂;
-        term = ap (λ (y : Header). y.term.0) loaded₂ ∙ term;
+        size = ap (λ (y : Header Role). y.size.0) loaded₂;
+        self = ap (λ (y : Header Role). y.id.0) loaded₂;
+        term = ap (λ (y : Header Role). y.term.0) loaded₂ ∙ term;
         log = ap lift_log (applied_set_log s₁ (applied_number s - 1) ∙ header_log s s₁ (length_stored s h) behind₁) ∙ log;
         commit = applied_set_commit s₁ (applied_number s - 1) ∙ (commit_alike s s₁ (length_stored s h) behind₁ ∙ commit);
         role = role;
       }
     where
       role : RoleStands n s₂ (loaded s₂).role (restart k)
-      role = subst (λ (y : Header). RoleStands n s₂ y.role (restart k)) (sym loaded₂) (record { role = refl; elapsed = refl; heard = refl })
+      role = subst (λ (y : Header Role). RoleStands n s₂ y.role (restart k)) (sym loaded₂) (record { role = refl; elapsed = refl; heard = refl })
 
   loaded₃ : loaded s₃ ≡ h
   loaded₃ = loaded_alike s₂ s₃ (λ i l. due_row_before s₂ (λ _. 0) i (omega arith)) ∙ loaded₂
@@ -86,8 +88,8 @@ module _ (n id : ℕ) (s : List ℕ) (k : Persistent (List ℕ)) (tidy : Tidy s)
   powers₃ z e =
       subst (λ (y : List ℕ). (Stands n id y (restart k)) × (Quiet y) × ((loaded y).since.0 ≡ 0) × (applied_number y ≡ applied_number s - 1)) (sym e) (
         stands_row s₂ (λ _. 0) n id (restart k) few stands₂,
-        record { none_due = none_due s₃ (λ j l. row_put_same s₂ 29 (λ _. 0) 7 j l (omega (arith, stands₂.tidy.entries.long))); settled = ap (λ (y : Header). y.unsettled) loaded₃ },
-        ap (λ (y : Header). y.since.0) loaded₃,
+        record { none_due = none_due s₃ (λ j l. row_put_same s₂ 29 (λ _. 0) 7 j l (omega (arith, stands₂.tidy.entries.long))); settled = ap (λ (y : Header Role). y.unsettled) loaded₃ },
+        ap (λ (y : Header Role). y.since.0) loaded₃,
         applied_alike s₂ s₃ (due_row_long s₂ (λ _. 0)) (λ i l. due_row_behind s₂ (λ _. 0) i (omega arith)) ∙ applied_set_applied s₁ (applied_number s - 1) long₁ back,
       )
 

@@ -153,8 +153,8 @@ module _ (n id : ℕ) (m : List ℕ) (x : Machine (List ℕ)) (v : List ℕ) (fe
       record {
         stands = stands_said_others m₃ (loaded m) Append n id (proposed (conf n) id x v a b) few stands₃;
         sent = posted_appends n id m₃ (proposed (conf n) id x v a b) (loaded m) (upd a id (length (extended x v).log)) b few stands₃ s.size s.self refl;
-        safe = λ f. absurd (true≢false (sym (ap (λ (z : Header). z.unsettled) e) ∙ f));
-        since = ap (λ (z : Header). z.since) e;
+        safe = λ f. absurd (true≢false (sym (ap (λ (z : Header Kind). z.unsettled) e) ∙ f));
+        since = ap (λ (z : Header Kind). z.since) e;
         applied = said_others_applied m₃ (loaded m) Append ∙ applied₃;
       }
 

@@ -35,9 +35,9 @@ said_handled n id m x f d y few sender s e =
     record {
       stands = stands_said m f d n id x few s;
       told = says (out f y) [] refl (posted_to m s.tidy.entries.long f d (omega arith) ∙ ap (λ (z : Letter (List ℕ)). out f z ∷ []) e);
-      still_unsettled = λ u. ap (λ (h : Header). h.unsettled) (said_loaded m f d) ∙ u;
+      still_unsettled = λ u. ap (λ (h : Header Kind). h.unsettled) (said_loaded m f d) ∙ u;
       safe = λ u. record { term = refl; log = refl };
-      since = ap (λ (h : Header). h.since) (said_loaded m f d);
+      since = ap (λ (h : Header Kind). h.since) (said_loaded m f d);
       applied = said_applied m f d;
     }
 

@@ -9,7 +9,8 @@ use Rattle.raft.specs.declared.header.Machine.{Machine as Header}
 use Rattle.raft.specs.declared.say.Due.TheVariants.{Append, RequestVote, TellTerm}
 use Rattle.raft.specs.Header.{ticks, loaded, stored, elapsed_word}
 use Rattle.raft.specs.Say.{said_to_others, said_to}
-use Rattle.raft.specs.Election.{owner as owner_at, with_role, term_entered, next_term_entered, older, reminded, waited, asked_again, tick_as as tick_with, ticked as memory_ticked}
+use Rattle.raft.specs.Header.{with_role, older}
+use Rattle.raft.specs.Election.{owner as owner_at, term_entered, next_term_entered, reminded, waited, asked_again, tick_as as tick_with, ticked as memory_ticked}
 use Rattle.raft.proofs.HeaderLaws.{Held, loaded_held, loaded_stored, length_stored, stored_other}
 use Rattle.protocol.specs.Lists.{pick}
 use Rattle.machine.specs.Machine.{Machine, Role, follower, candidate, leader, Letter, here, out, Outcome, outcome}
@@ -61,7 +62,7 @@ module _ (n id : ℕ) (x : Machine (List ℕ)) where
 
 -- MEMORY'S TICK
 module _ (n id : ℕ) (m : List ℕ) (x : Machine (List ℕ)) (least : 1 ≤ n) (few : n ≤ 7) (own : id < n) (s : Stands n id m x) (q : Quiet m) where
-  abbrev h : Header
+  abbrev h : Header Kind
   h = loaded m
 
   -- ten ticks are over: the next term
@@ -93,7 +94,7 @@ module _ (n id : ℕ) (m : List ℕ) (x : Machine (List ℕ)) (least : 1 ≤ n) 
 
     put_none : posted put ≡ []
     put_none =
-        posted_alike m put (ap (λ (y : Header). y.term.0) put_loaded) (λ i a b. stored_other m (with_role h k) i (omega arith)) (λ i a. stored_other m (with_role h k) i (omega arith))
+        posted_alike m put (ap (λ (y : Header Kind). y.term.0) put_loaded) (λ i a b. stored_other m (with_role h k) i (omega arith)) (λ i a. stored_other m (with_role h k) i (omega arith))
         ∙ posted_quiet m q.none_due
 
     put_long : length put ≡ memory_words
@@ -105,7 +106,7 @@ module _ (n id : ℕ) (m : List ℕ) (x : Machine (List ℕ)) (least : 1 ≤ n) 
     -- nothing is said
     put_does : Does n id m put x (outcome (ticked x) [])
     put_does =
-        record { stands = put_stands; sent = put_none; safe = λ _. same; since = ap (λ (y : Header). y.since) put_loaded; applied = stored_applied m (with_role h k) }
+        record { stands = put_stands; sent = put_none; safe = λ _. same; since = ap (λ (y : Header Kind). y.since) put_loaded; applied = stored_applied m (with_role h k) }
 
     -- the term's owner is told where the machine is
     put_tells : Does n id m (said_to put (owner_at h.size.0 h.term.0) TellTerm) x (outcome (ticked x) (out (owner (conf n) x.term) (here x.term) ∷ []))
@@ -117,7 +118,7 @@ module _ (n id : ℕ) (m : List ℕ) (x : Machine (List ℕ)) (least : 1 ≤ n) 
           sent = posted_to put put_long j TellTerm (omega (arith, is, owner_least n x.term least))
               ∙ (ap (λ (y : Letter (List ℕ)). out j y ∷ []) (made_here n id put (ticked x) put_stands j) ∙ ap (λ (i : ℕ). out i (here x.term) ∷ []) is);
           safe = λ _. same;
-          since = ap (λ (y : Header). y.since) (said_loaded put j TellTerm ∙ put_loaded);
+          since = ap (λ (y : Header Kind). y.since) (said_loaded put j TellTerm ∙ put_loaded);
           applied = said_applied put j TellTerm ∙ stored_applied m (with_role h k);
         }
       where
@@ -132,7 +133,7 @@ module _ (n id : ℕ) (m : List ℕ) (x : Machine (List ℕ)) (least : 1 ≤ n) 
           sent = posted_others put put_long h n id RequestVote few s.size s.self
               ∙ to_others_cong id (letter_of put RequestVote) (λ _. request_of x) n (λ j l. made_request n id put (ticked x) put_stands j);
           safe = λ _. same;
-          since = ap (λ (y : Header). y.since) (said_others_loaded put h RequestVote ∙ put_loaded);
+          since = ap (λ (y : Header Kind). y.since) (said_others_loaded put h RequestVote ∙ put_loaded);
           applied = said_others_applied put h RequestVote ∙ stored_applied m (with_role h k);
         }
 
@@ -220,7 +221,7 @@ module _ (n id : ℕ) (m : List ℕ) (x : Machine (List ℕ)) (least : 1 ≤ n) 
           stands = stands_said_others m h Append n id x few s;
           sent = posted_appends n id m x h r.acked r.next few s s.size s.self r.role;
           safe = λ _. record { term = refl; log = refl };
-          since = ap (λ (y : Header). y.since) (said_others_loaded m h Append);
+          since = ap (λ (y : Header Kind). y.since) (said_others_loaded m h Append);
           applied = said_others_applied m h Append;
         })
 

@@ -91,9 +91,9 @@ module _ (n id f : ℕ) (few : n ≤ 7) (sender : f < n) (other : f ≢ id) (m :
   stands₁ =
       record {
         tidy = header_tidy m m₁ long₁ behind₁ s.tidy;
-        size = ap (λ (y : Header). y.size.0) loaded₁ ∙ s.size;
-        self = ap (λ (y : Header). y.id.0) loaded₁ ∙ s.self;
-        term = ap (λ (y : Header). y.term.0) loaded₁ ∙ s.term;
+        size = ap (λ (y : Header Kind). y.size.0) loaded₁ ∙ s.size;
+        self = ap (λ (y : Header Kind). y.id.0) loaded₁ ∙ s.self;
+        term = ap (λ (y : Header Kind). y.term.0) loaded₁ ∙ s.term;
         log = ap lift_log (header_log m m₁ long₁ behind₁) ∙ s.log;
         commit = commit_alike m m₁ long₁ behind₁ ∙ s.commit;
         role = waits;
@@ -101,17 +101,17 @@ module _ (n id f : ℕ) (few : n ≤ 7) (sender : f < n) (other : f ≢ id) (m :
     where
       waits : RoleStands n m₁ (loaded m₁).role (as_candidate x (upd v f true))
       waits =
-          subst (λ (k : Kind). RoleStands n m₁ k (as_candidate x (upd v f true))) (sym (ap (λ (y : Header). y.role) loaded₁ ∙ role))
+          subst (λ (k : Kind). RoleStands n m₁ k (as_candidate x (upd v f true))) (sym (ap (λ (y : Header Kind). y.role) loaded₁ ∙ role))
           (record { votes = upd v f true; role = refl; elapsed = stood.elapsed; counted = counted₁ })
 
   waits_on : Handles n id m m₁ x (outcome (as_candidate x (upd v f true)) [])
   waits_on =
       record {
         stands = stands₁;
-        told = keeps refl (posted_alike m m₁ (ap (λ (y : Header). y.term.0) loaded₁) (λ i a b. other₁ i (omega arith)) behind₁);
-        still_unsettled = λ u. ap (λ (y : Header). y.unsettled) loaded₁ ∙ u;
+        told = keeps refl (posted_alike m m₁ (ap (λ (y : Header Kind). y.term.0) loaded₁) (λ i a b. other₁ i (omega arith)) behind₁);
+        still_unsettled = λ u. ap (λ (y : Header Kind). y.unsettled) loaded₁ ∙ u;
         safe = λ u. record { term = refl; log = refl };
-        since = ap (λ (y : Header). y.since) loaded₁;
+        since = ap (λ (y : Header Kind). y.since) loaded₁;
         applied = applied_alike m m₁ long₁ behind₁;
       }
 

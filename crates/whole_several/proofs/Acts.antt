@@ -7,6 +7,7 @@ use Rattle.raft_log.specs.Entries.{commit_index, applied_number, decided, applie
 use Rattle.raft_log.proofs.LogLaws.{number_most, SameEntries, same_applied, applied_set_applied, applied_set_other, length_applied_set}
 use Rattle.messages.specs.Letter.{letter_bytes}
 use Rattle.messages.proofs.RoundTrip.{letter_all, letter_short}
+use Rattle.raft.specs.declared.header.Role.{Role}
 use Rattle.raft.specs.declared.header.Machine.{Machine}
 use Rattle.raft.specs.Header.{loaded, stored}
 use Rattle.raft.specs.Outbox.{Mail, mail_due, flown_to}
@@ -72,10 +73,10 @@ module _ (m : List ℕ) (long : length m ≡ memory_words) where
   safe_still =
       record {
         long = length_stored m (settled (loaded m));
-        size = ap (λ (x : Machine). x.size) safe_loaded;
-        id = ap (λ (x : Machine). x.id) safe_loaded;
-        term = ap (λ (x : Machine). x.term) safe_loaded;
-        role = ap (λ (x : Machine). x.role) safe_loaded;
+        size = ap (λ (x : Machine Role). x.size) safe_loaded;
+        id = ap (λ (x : Machine Role). x.id) safe_loaded;
+        term = ap (λ (x : Machine Role). x.term) safe_loaded;
+        role = ap (λ (x : Machine Role). x.role) safe_loaded;
         rows = λ i a b. stored_other m (settled (loaded m)) i a;
         behind = λ i a b. stored_other m (settled (loaded m)) i (omega arith);
       }
@@ -84,10 +85,10 @@ module _ (m : List ℕ) (long : length m ≡ memory_words) where
   safe_applied = same_applied m safe (stored_other m (settled (loaded m)) 66 (omega arith))
 
   pub safe_since : (loaded safe).since ≡ (loaded m).since
-  safe_since = ap (λ (x : Machine). x.since) safe_loaded
+  safe_since = ap (λ (x : Machine Role). x.since) safe_loaded
 
   pub safe_settled : (loaded safe).unsettled ≡ false
-  safe_settled = ap (λ (x : Machine). x.unsettled) safe_loaded
+  safe_settled = ap (λ (x : Machine Role). x.unsettled) safe_loaded
 
   -- the letters are the same
   pub settled_mail : mail_due safe ≡ mail_due m
@@ -129,7 +130,7 @@ module _ (m : List ℕ) (long : length m ≡ memory_words) where
     pub acts_fly : acts m ≡ flies l.to (letter_bytes l.letter) ∷ acts flown
     unfolding letters_from
     acts_fly =
-        let u : (loaded flown).unsettled ≡ false = ap (λ (x : Machine). x.unsettled) (flown_loaded m l.to) ∙ still in
+        let u : (loaded flown).unsettled ≡ false = ap (λ (x : Machine Role). x.unsettled) (flown_loaded m l.to) ∙ still in
         acts_is m false (l ∷ ls) still due-first
         ∙ sym (ap (λ (x : List Act). flies l.to (letter_bytes l.letter) ∷ x)
         (acts_is flown false ls u flown_mail ∙ ap (λ (x : List Act). letters_from ls ++ x) (same_applying m flown flown_still flown_same)))
@@ -138,7 +139,7 @@ module _ (m : List ℕ) (long : length m ≡ memory_words) where
   abbrev pub onward : List ℕ
   onward = advanced m (loaded m) (applied_number m + 1)
 
-  abbrev noted : Machine
+  abbrev noted : Machine Role
   noted = applied_up_to (loaded m) (applied_number m + 1)
 
   noted_held : Held noted
@@ -162,10 +163,10 @@ module _ (m : List ℕ) (long : length m ≡ memory_words) where
   onward_still =
       record {
         long = onward_long;
-        size = ap (λ (x : Machine). x.size) onward_loaded;
-        id = ap (λ (x : Machine). x.id) onward_loaded;
-        term = ap (λ (x : Machine). x.term) onward_loaded;
-        role = ap (λ (x : Machine). x.role) onward_loaded;
+        size = ap (λ (x : Machine Role). x.size) onward_loaded;
+        id = ap (λ (x : Machine Role). x.id) onward_loaded;
+        term = ap (λ (x : Machine Role). x.term) onward_loaded;
+        role = ap (λ (x : Machine Role). x.role) onward_loaded;
         rows = λ i a b. onward_other i a (omega arith);
         behind = λ i a b. onward_other i (omega arith) b;
       }
@@ -200,7 +201,7 @@ module _ (m : List ℕ) (long : length m ≡ memory_words) where
     acts_apply l =
         let k : ℕ = applied_number m in
         let more : decided m - k ≡ suc (decided m - (k + 1)) = omega arith in
-        let u : (loaded onward).unsettled ≡ false = ap (λ (x : Machine). x.unsettled) onward_loaded ∙ still in
+        let u : (loaded onward).unsettled ≡ false = ap (λ (x : Machine Role). x.unsettled) onward_loaded ∙ still in
         let left : applying_now onward ≡ decisions_from m (k + 1) (decided m - (k + 1)) =
         rw (onward_applied l, still_decided m onward onward_still) (same_decisions m onward (still_entries m onward onward_still) (k + 1) (decided m - (k + 1))) in
         acts_last

@@ -162,7 +162,7 @@ module _ (n h : ℕ) (few : n ≤ 7) (ps : List (List ℕ)) (x : Machine ℕ) wh
       let s = flown_still m fit.long u l ls e in
       let most : l.to < 7 = (mail_first m fit.long 0 7 (omega arith) l ls e).most in
       let word : get_or (flown_to m l.to) 66 0 ≡ get_or m 66 0 = flown_other m l.to 37 (omega arith) in
-      same_going m (flown_to m l.to) f s (omega (arith, word, t.tidy.applied)) (flown_same m fit.long u l ls e) (ap (λ (z : Header). z.since) (flown_loaded m l.to))
+      same_going m (flown_to m l.to) f s (omega (arith, word, t.tidy.applied)) (flown_same m fit.long u l ls e) (ap (λ (z : Header Kind). z.since) (flown_loaded m l.to))
       ((kept_flown m l.to).small g.small) g
 
   -- THE NEXT IS APPLIED
@@ -190,7 +190,7 @@ module _ (n h : ℕ) (few : n ≤ 7) (ps : List (List ℕ)) (x : Machine ℕ) wh
         record {
           means = λ v q. still_stands n h m (onward m fit.long) (map_machine v x) few s onward_word (g.means v q);
           small = (kept_advanced m (j + 1) (omega (arith, number_most m (commit_index m)))).small g.small;
-          since = ap (λ (z : Header). z.since.0) y;
+          since = ap (λ (z : Header Kind). z.since.0) y;
           turn = eq-eqb (applied_number (onward m fit.long) + 1) (suc (j + 1)) (omega arith);
           low = omega arith;
           reach = omega (arith, larger_right f.ever (j + 1));
@@ -279,14 +279,14 @@ module _ (n h : ℕ) (few : n ≤ 7) (ps : List (List ℕ)) (x : Machine ℕ) wh
         by more (settling q) = absurd (true≢false (sym q ∙ u))
         by more (flying q l ls e) =
             let g₁ = flown_going m f fit₁ q l ls e g in
-            let u₁ : (loaded (flown_to m l.to)).unsettled ≡ false = ap (λ (z : Header). z.unsettled) (flown_loaded m l.to) ∙ q in
+            let u₁ : (loaded (flown_to m l.to)).unsettled ≡ false = ap (λ (z : Header Kind). z.unsettled) (flown_loaded m l.to) ∙ q in
             let z : Fine ls s f (made k (flown_to m l.to) s) = subst (λ (y : List DueMail). Fine y s f (made k (flown_to m l.to) s)) (flown_mail m fit₁.long q l ls e) (more (flown_to m l.to) f g₁ u₁ b) in
             subst (λ (y : List DueMail). Fine y s f (made (suc k) m s)) (sym e)
             (subst (λ (r : Ran). Fine (l ∷ ls) s f r) (sym (made_fly k m s fit₁ q l ls e)) (fine_fly l ls s f (made k (flown_to m l.to) s) z))
         by more (applying q e l) =
             let m₁ : List ℕ = onward m fit₁.long in
             let f₁ : Far = got_to f (applied_number m + 1) in
-            let u₁ : (loaded (onward m fit₁.long)).unsettled ≡ false = ap (λ (z : Header). z.unsettled) (onward_loaded m fit₁.long) ∙ q in
+            let u₁ : (loaded (onward m fit₁.long)).unsettled ≡ false = ap (λ (z : Header Kind). z.unsettled) (onward_loaded m fit₁.long) ∙ q in
             let d = going_decided m f g in
             let b₁ : (got_to f (applied_number m + 1)).ever ≤ length o = larger_le f.ever (applied_number m + 1) (length o) b (omega (arith, begins_length (decided x) o ordered)) in
             let z : Fine [] s (got_to f (applied_number m + 1)) (made k (onward m fit₁.long) s) =

@@ -12,6 +12,7 @@ use Rattle.raft_log.proofs.LogFits.{term_small, log_entries_fit}
 use Rattle.raft_log.proofs.LogLaws.{last_most, commit_most, SameEntries, same_entries, same_commit, same_applied}
 use Rattle.raft_log.proofs.LogChanges.{same_log}
 use Rattle.messages.specs.Letter.{Letter, append, request_vote, request_vote_response, term_notice, LetterFits}
+use Rattle.raft.specs.declared.header.Role.{Role}
 use Rattle.raft.specs.declared.header.Machine.{Machine}
 use Rattle.raft.specs.declared.say.Due.{Due}
 use Rattle.raft.specs.declared.say.Due.TheVariants.{Append, RequestVote, TellTerm, Grant, Deny, Accept, Reject}
@@ -19,7 +20,8 @@ use Rattle.raft.specs.Header.{loaded}
 use Rattle.raft.proofs.HeaderLaws.{loaded_alike}
 use Rattle.together.specs.Promise.{all_small}
 use Rattle.whole_several.proofs.Smalls.{small_word, small_words, loaded_small}
-use Rattle.raft.specs.Outbox.{due_of, due_to, prev_of, count_of, letter_made, Mail, mail, mail_at, mail_from, mail_due, flown_to}
+use Rattle.raft.specs.Say.{due_of}
+use Rattle.raft.specs.Outbox.{due_to, prev_of, count_of, letter_made, Mail, mail, mail_at, mail_from, mail_due, flown_to}
 
 -- WHAT NO ACT CHANGES: who the machine is, its term and role, its rows, its log and what of it is decided
 pub record Still (m m₁ : List ℕ) : Type 0 where
@@ -108,10 +110,10 @@ still_flown m j l =
     let e = loaded_alike m (set m (29 + j) 0) (λ i b. get_or-set_other m (29 + j) i 0 0 (omega arith)) in
     record {
       long = length-set m (29 + j) 0;
-      size = ap (λ (x : Machine). x.size) e;
-      id = ap (λ (x : Machine). x.id) e;
-      term = ap (λ (x : Machine). x.term) e;
-      role = ap (λ (x : Machine). x.role) e;
+      size = ap (λ (x : Machine Role). x.size) e;
+      id = ap (λ (x : Machine Role). x.id) e;
+      term = ap (λ (x : Machine Role). x.term) e;
+      role = ap (λ (x : Machine Role). x.role) e;
       rows = λ i a b. get_or-set_other m (29 + j) i 0 0 (omega arith);
       behind = λ i a b. get_or-set_other m (29 + j) i 0 0 (omega arith);
     }

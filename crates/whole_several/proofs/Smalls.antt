@@ -55,7 +55,7 @@ unfolding all_small
 kept_set m i x l = record { long = length-set m i x; small = λ h. every_set (λ y. ltb y limit) m i x (lt-ltb x limit (l h)) h }
 
 -- a struct whose numbers fit words
-pub record Small (x : Machine) : Type 0 where
+pub record Small (x : Machine Role) : Type 0 where
   pub size : x.size.0 < limit
   pub id : x.id.0 < limit
   pub term : x.term.0 < limit
@@ -76,7 +76,7 @@ heard_small (Follower e h) = flag_small h
 heard_small (Candidate e) = omega arith
 heard_small Leader = omega arith
 
-pub kept_stored : (m : List ℕ) (x : Machine) → (all_small m ≡ true → Small x) → Kept m (stored m x)
+pub kept_stored : (m : List ℕ) (x : Machine Role) → (all_small m ≡ true → Small x) → Kept m (stored m x)
 unfolding stored
 kept_stored m x s =
     record {
@@ -88,7 +88,7 @@ kept_stored m x s =
     }
 
 -- the struct is stored over what m became
-pub kept_over : (m m₁ : List ℕ) (y : Machine) → Kept m m₁ → (all_small m ≡ true → Small y) → Kept m (stored m₁ y)
+pub kept_over : (m m₁ : List ℕ) (y : Machine Role) → Kept m m₁ → (all_small m ≡ true → Small y) → Kept m (stored m₁ y)
 kept_over m m₁ y k s = record { long = length_stored m₁ y ∙ k.long; small = λ h. (kept_stored m₁ y (λ _. s h)).small (k.small h) }
 
 pub loaded_small : (m : List ℕ) → all_small m ≡ true → Small (loaded m)

@@ -29,7 +29,8 @@ use Rattle.raft.specs.Rows.{row_put, row_set, only, others, matched_at, next_at,
 use Rattle.raft.specs.Say.{due_word, said_to_others, said_to, answered}
 use Rattle.raft.specs.Commit.{quorum_index, maybe_committed}
 use Rattle.raft.specs.Power.{belongs, restarted, powered}
-use Rattle.raft.specs.Election.{owner, with_role, in_term, rows_begun, led_with_room, led, stood, campaigned, told, followed, term_entered, next_term_entered, older, reminded, waited, asked_again, tick_as, ticked, wins_now, vote_taken, vote_due}
+use Rattle.raft.specs.Header.{with_role, in_term, older}
+use Rattle.raft.specs.Election.{owner, rows_begun, led_with_room, led, stood, campaigned, told, followed, term_entered, next_term_entered, reminded, waited, asked_again, tick_as, ticked, wins_now, vote_taken, vote_due}
 use Rattle.raft.specs.Progress.{after, matched_then, next_then, matched_raised, spread, ack_taken, next_below, rejects_next, reject_taken}
 use Rattle.raft.specs.Proposal.{with_unsettled, taken, propose_as, proposed}
 use Rattle.raft.specs.Receive.{letter_term, heard_from, log_changes, append_taken, append_as, request_as, vote_as, response_as, reject_as, handle_with, handled, old_taken, taken_by_term, another, received_from_another}
@@ -97,7 +98,7 @@ module _ (b : List ℕ) where
   set_kept : (m : List ℕ) (i x : ℕ) → Kept b m → IfSmall (x < limit) → Kept b (set m i x)
   set_kept m i x k l = record { long = length-set m i x ∙ k.long; small = λ h. (kept_set m i x (λ _. l h)).small (k.small h) }
 
-  stored_kept : (m : List ℕ) (x : Machine) → Kept b m → IfSmall (Small x) → Kept b (stored m x)
+  stored_kept : (m : List ℕ) (x : Machine Role) → Kept b m → IfSmall (Small x) → Kept b (stored m x)
   stored_kept m x k s = kept_over b m x k s
 
   loaded_kept : (m : List ℕ) → Kept b m → IfSmall (Small (loaded m))
@@ -112,10 +113,10 @@ module _ (b : List ℕ) where
   only_small : (i v j : ℕ) → v < limit → only i v j < limit
   only_small i v j l = cond_both (eqb j i) v 0 (λ x. x < limit) (λ _. l) (λ _. omega arith)
 
-  others_small : (x : Machine) (v j : ℕ) → v < limit → others x v j < limit
+  others_small : (x : Machine Role) (v j : ℕ) → v < limit → others x v j < limit
   others_small x v j l = cond_both (ltb j x.size.0 && not (eqb j x.id.0)) v 0 (λ x. x < limit) (λ _. l) (λ _. omega arith)
 
-  said_others_kept : (m : List ℕ) (x : Machine) (d : Due) → Kept b m → Kept b (said_to_others m x d)
+  said_others_kept : (m : List ℕ) (x : Machine Role) (d : Due) → Kept b m → Kept b (said_to_others m x d)
   unfolding said_to_others
   said_others_kept m x d k = row_kept m 29 (others x (due_word d)) 7 k (λ j. others_small x (due_word d) j (due_small d))
 
@@ -166,7 +167,7 @@ module _ (b : List ℕ) where
       cond_both (eqb (term_at m (quorum_index m n)) t) (commit_raised m (quorum_index m n)) m (λ x. Kept b x) (λ _. raised_kept m (quorum_index m n) k) (λ _. k)
 
   -- ELECTIONS: x is a struct whose numbers are small
-  module _ (x : Machine) (small : IfSmall (Small x)) where
+  module _ (x : Machine Role) (small : IfSmall (Small x)) where
     small_in : (t : ℕ) (r : Role) → IfSmall (t < limit) → elapsed_word r ≤ 10 → IfSmall (Small (in_term x t r))
     small_in t r l w h = record { size = (small h).size; id = (small h).id; term = l h; since = (small h).since; waits = w }
 
@@ -326,7 +327,7 @@ module _ (b : List ℕ) where
       (λ _. omega (arith, commit_most m₁, last_most m₁, at_most_le c (p + length es)))
 
   -- A LETTER whose numbers are words
-  module _ (m : List ℕ) (x : Machine) (k : Kept b m) (small : IfSmall (Small x)) where
+  module _ (m : List ℕ) (x : Machine Role) (k : Kept b m) (small : IfSmall (Small x)) where
     small_heard : (c : Bool) → IfSmall (Small (heard_from x c))
     small_heard c h = record { size = (small h).size; id = (small h).id; term = (small h).term; since = (small h).since; waits = omega arith }
 
@@ -394,7 +395,7 @@ module _ (b : List ℕ) where
   old_kept m f (request_vote_response t c) k = k
   old_kept m f (term_notice t) k = said_kept m f TellTerm k
 
-  by_term_kept : (m : List ℕ) (x : Machine) (f : ℕ) (l : Letter) → Kept b m → IfSmall (Small x) → LetterFits l → Kept b (taken_by_term m x f l)
+  by_term_kept : (m : List ℕ) (x : Machine Role) (f : ℕ) (l : Letter) → Kept b m → IfSmall (Small x) → LetterFits l → Kept b (taken_by_term m x f l)
   by_term_kept m x f l k small g =
       cond_both (ltb x.term.0 (letter_term l)) (handled (term_entered m x (letter_term l) false) f l)
       (cond (ltb (letter_term l) x.term.0) (old_taken m f l) (handle_with m x f l)) (λ y. Kept b y)
@@ -405,13 +406,13 @@ module _ (b : List ℕ) where
 pub kept_powered : (m : List ℕ) (i n : ℕ) → Kept m (powered m i n)
 unfolding powered
 kept_powered m i n =
-    cond_both (belongs i n) (row_set (applied_set (stored m (restarted (loaded m) i n)) (applied_number m - 1)) 29 (λ _. 0)) m (λ x. Kept m x)
+    cond_both (belongs i n) (row_set (applied_set (stored m (restarted (loaded m) i n (Follower (ticks 0) false))) (applied_number m - 1)) 29 (λ _. 0)) m (λ x. Kept m x)
     (λ e.
     let b = and_parts (leb n 7) (ltb i n) e in
     let low : n ≤ 7 = leb-true n 7 b.0 in
     let at : i < n = ltb-true i n b.1 in
-    row_kept m (applied_set (stored m (restarted (loaded m) i n)) (applied_number m - 1)) 29 (λ _. 0) 7
-    (then_kept (kept_stored m (restarted (loaded m) i n) (λ h. record { size = omega arith; id = omega arith; term = (loaded_small m h).term; since = omega arith; waits = omega arith }))
+    row_kept m (applied_set (stored m (restarted (loaded m) i n (Follower (ticks 0) false))) (applied_number m - 1)) 29 (λ _. 0) 7
+    (then_kept (kept_stored m (restarted (loaded m) i n (Follower (ticks 0) false)) (λ h. record { size = omega arith; id = omega arith; term = (loaded_small m h).term; since = omega arith; waits = omega arith }))
     (kept_applied _ (applied_number m - 1) (omega (arith, applied_most m))))
     (λ j. omega arith))
     (λ _. kept m)

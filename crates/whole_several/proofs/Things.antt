@@ -169,7 +169,7 @@ pub asked : (m v : List ℕ) → Asked m v
 unfolding proposed
 asked m v = size (ltb 256 (length v)) refl
   where
-    x : Header
+    x : Header Role
     x = loaded m
 
     answers : Bool → Role → Result (List ℕ) Refusal
