@@ -42,6 +42,7 @@ pub fn due(memory: &Memory) -> Option<u64>
 }
 
 /// Notes that a decision was applied.
+#[tactic(auto, unfolding(crate::specs::Apply::advanced))]
 pub fn advance(memory: &mut Memory, machine: Machine<Role>, number: Number)
     ensures { memory.new ≡ advanced memory.old machine number.0 }
 {

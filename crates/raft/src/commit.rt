@@ -21,6 +21,7 @@ pub(crate) fn quorum_index(memory: &Memory, size: ClusterSize) -> Index
 }
 
 /// Commit rises to what more than half have, if the entry there is of this term.
+#[tactic(auto, unfolding(crate::specs::Commit::maybe_committed))]
 pub(crate) fn maybe_commit(memory: &mut Memory, size: ClusterSize, own: Term)
     requires { (1 ≤ size.0) × (size.0 ≤ 7) }
     ensures { memory.new ≡ maybe_committed memory.old size.0 own.0 }

@@ -23,6 +23,7 @@ impl Machine<Role> {
     }
 }
 
+#[tactic(auto, unfolding(crate::specs::Election::rows_begun))]
 fn begin_rows(memory: &mut Memory, id: MachineId, last: Index)
     ensures { memory.new ≡ rows_begun memory.old id.0 last.0 }
 {
@@ -30,6 +31,7 @@ fn begin_rows(memory: &mut Memory, id: MachineId, last: Index)
     set_all(memory, NEXT, last.0);
 }
 
+#[tactic(auto, unfolding(crate::specs::Election::led, crate::specs::Election::led_with_room))]
 fn lead(memory: &mut Memory, machine: Machine<Role>, term: Term)
     requires { (1 ≤ machine.size.0) × (machine.size.0 ≤ 7) }
     ensures { memory.new ≡ led memory.old machine term.0 }
@@ -47,6 +49,7 @@ fn lead(memory: &mut Memory, machine: Machine<Role>, term: Term)
     say_to_others(memory, machine, Due::Append);
 }
 
+#[tactic(auto, unfolding(crate::specs::Election::stood))]
 fn stand(memory: &mut Memory, machine: Machine<Role>, term: Term)
     ensures { memory.new ≡ stood memory.old machine term.0 }
 {
@@ -55,6 +58,7 @@ fn stand(memory: &mut Memory, machine: Machine<Role>, term: Term)
     say_to_others(memory, machine, Due::RequestVote);
 }
 
+#[tactic(auto, unfolding(crate::specs::Election::campaigned))]
 fn campaign(memory: &mut Memory, machine: Machine<Role>, term: Term)
     requires { (1 ≤ machine.size.0) × (machine.size.0 ≤ 7) }
     ensures { memory.new ≡ campaigned memory.old machine term.0 }
@@ -66,6 +70,7 @@ fn campaign(memory: &mut Memory, machine: Machine<Role>, term: Term)
     }
 }
 
+#[tactic(auto, unfolding(crate::specs::Election::followed))]
 fn follow(memory: &mut Memory, machine: Machine<Role>, term: Term, loud: bool)
     requires { 1 ≤ machine.size.0 }
     ensures { memory.new ≡ followed memory.old machine term.0 loud }
@@ -82,6 +87,7 @@ fn follow(memory: &mut Memory, machine: Machine<Role>, term: Term, loud: bool)
 }
 
 /// The machine goes to a term: its owner stands, any other follows and says so.
+#[tactic(auto, unfolding(crate::specs::Election::term_entered))]
 pub(crate) fn enter_term(memory: &mut Memory, machine: Machine<Role>, term: Term, loud: bool)
     requires { (1 ≤ machine.size.0) × (machine.size.0 ≤ 7) }
     ensures { memory.new ≡ term_entered memory.old machine term.0 loud }
@@ -110,6 +116,7 @@ fn knows_leader(machine: Machine<Role>, heard: bool) -> bool
 }
 
 // Who has not heard from the term's leader tells its owner again where it is.
+#[tactic(auto, unfolding(crate::specs::Election::reminded))]
 fn remind(memory: &mut Memory, machine: Machine<Role>, heard: bool)
     requires { 1 ≤ machine.size.0 }
     ensures { memory.new ≡ reminded memory.old machine heard }
@@ -144,6 +151,7 @@ fn ask_again(memory: &mut Memory, machine: Machine<Role>, elapsed: Ticks)
 }
 
 /// Some time has passed.
+#[tactic(auto, unfolding(crate::specs::Election::ticked))]
 pub fn tick(memory: &mut Memory)
     ensures { memory.new ≡ ticked memory.old }
 {
@@ -163,6 +171,7 @@ fn wins(memory: &Memory, machine: Machine<Role>, elapsed: Ticks) -> bool
 }
 
 /// A candidate got a vote: with more than half it leads.
+#[tactic(auto, unfolding(crate::specs::Election::vote_taken))]
 pub(crate) fn take_vote(memory: &mut Memory, machine: Machine<Role>, elapsed: Ticks, from: Peer)
     requires { (1 ≤ machine.size.0) × ((machine.size.0 ≤ 7)) }
     ensures { memory.new ≡ vote_taken memory.old machine elapsed from.id.0 }

@@ -117,6 +117,7 @@ fn first_due(memory: &Memory) -> Option<Next>
 }
 
 // Notes that the letter to a machine flew.
+#[tactic(auto, unfolding(crate::specs::Outbox::flown_to))]
 fn forget_due(memory: &mut Memory, to: Peer)
     ensures { memory.new ≡ flown_to memory.old to.id.0 }
 {

@@ -32,6 +32,7 @@ impl<R: Copy> Machine<R> {
 }
 
 /// Starts machine `id` of `size`, from 1 to 7; for other numbers nothing is changed.
+#[tactic(auto, unfolding(crate::specs::Power::powered))]
 pub fn power(memory: &mut Memory, id: MachineId, size: ClusterSize)
     ensures { memory.new ≡ powered memory.old id.0 size.0 }
 {

@@ -17,6 +17,7 @@ fn after(index: u64) -> u64
     index.saturating_add(1)
 }
 
+#[tactic(auto, unfolding(crate::specs::Progress::matched_raised))]
 fn raise_matched(memory: &mut Memory, from: Peer, index: Index)
     ensures { memory.new ≡ matched_raised memory.old from.id.0 index.0 }
 {
@@ -27,6 +28,7 @@ fn raise_matched(memory: &mut Memory, from: Peer, index: Index)
 }
 
 // If commit rose all hear of it; else the one that answered gets what it lacks.
+#[tactic(auto, unfolding(crate::specs::Progress::spread))]
 fn spread(memory: &mut Memory, machine: Machine<Role>, from: Peer, commit: Index)
     ensures { memory.new ≡ spread memory.old machine from.id.0 commit.0 }
 {
@@ -40,6 +42,7 @@ fn spread(memory: &mut Memory, machine: Machine<Role>, from: Peer, commit: Index
 }
 
 /// A machine has acknowledged the log up to an index.
+#[tactic(auto, unfolding(crate::specs::Progress::ack_taken))]
 pub(crate) fn take_ack(memory: &mut Memory, machine: Machine<Role>, from: Peer, index: Index)
     requires { ((1 ≤ machine.size.0) × (machine.size.0 ≤ 7)) }
     ensures { memory.new ≡ ack_taken memory.old machine from.id.0 index.0 }
@@ -73,6 +76,7 @@ fn next_below(memory: &Memory, from: Peer, rejected: Index, hint: Index) -> u64
 }
 
 /// A machine has rejected an append behind an index, with a hint where to go on.
+#[tactic(auto, unfolding(crate::specs::Progress::reject_taken))]
 pub(crate) fn take_reject(memory: &mut Memory, from: Peer, rejected: Index, hint: Index)
     ensures { memory.new ≡ reject_taken memory.old from.id.0 rejected.0 hint.0 }
 {

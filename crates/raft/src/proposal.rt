@@ -41,6 +41,7 @@ impl<R: Copy> Machine<R> {
 }
 
 /// Takes a proposal, or says why not; nothing is changed then.
+#[tactic(auto, unfolding(crate::specs::Proposal::proposed, crate::specs::Proposal::taken))]
 pub fn propose(memory: &mut Memory, bytes: &[u8]) -> Result<(), Refusal>
     ensures { Proposed memory.old bytes.now result memory.new }
 {

@@ -52,6 +52,7 @@ fn log_changes(memory: &Memory, prev: Index, block: &Block<'_>) -> bool
     prev.0 <= MAX_ENTRIES && find_conflict(memory, prev, block).is_some()
 }
 
+#[tactic(auto, unfolding(crate::specs::Receive::append_taken))]
 fn take_append(memory: &mut Memory, machine: Machine<Role>, from: Peer, append: &Append<'_>)
     ensures { memory.new ≡ append_taken memory.old machine from.id.0 append.now.prev.0 append.now.prev_term.0 append.now.commit.0 append.now.block }
 {
@@ -182,6 +183,7 @@ fn take_old(memory: &mut Memory, from: Peer, message: &Message<Block<'_>>)
     }
 }
 
+#[tactic(auto, unfolding(crate::specs::Receive::handled))]
 fn handle_now(memory: &mut Memory, from: Peer, message: Message<Block<'_>>)
     ensures { memory.new ≡ handled memory.old from.id.0 (letter_in message.entry) }
 {
@@ -210,6 +212,7 @@ fn take_by_term(
 }
 
 /// A letter has come from a machine; bytes that are no letter, and a sender that is none of the machines, change nothing.
+#[tactic(auto, unfolding(crate::specs::Receive::received))]
 pub fn receive(memory: &mut Memory, from: MachineId, bytes: &[u8])
     ensures { memory.new ≡ received memory.old from.0 (letter_of bytes.now) }
 {
@@ -229,6 +232,7 @@ fn another(machine: Machine<Role>, from: MachineId) -> bool
 }
 
 /// A letter has come from a machine; bytes that are no letter, and a sender that is none of the others, change nothing.
+#[tactic(auto, unfolding(crate::specs::Receive::received_from_another))]
 pub fn receive_from_another(memory: &mut Memory, from: MachineId, bytes: &[u8])
     ensures { memory.new ≡ received_from_another memory.old from.0 (letter_of bytes.now) }
 {

@@ -51,6 +51,7 @@ impl TryFrom<u64> for Due {
 }
 
 /// A letter to each other machine.
+#[tactic(auto, unfolding(crate::specs::Say::said_to_others))]
 pub(crate) fn say_to_others(memory: &mut Memory, machine: Machine<Role>, due: Due)
     ensures { memory.new ≡ said_to_others memory.old machine due }
 {
@@ -58,6 +59,7 @@ pub(crate) fn say_to_others(memory: &mut Memory, machine: Machine<Role>, due: Du
 }
 
 /// A letter to one machine alone.
+#[tactic(auto, unfolding(crate::specs::Say::said_to))]
 pub(crate) fn say_to(memory: &mut Memory, to: MachineId, due: Due)
     ensures { memory.new ≡ said_to memory.old to.0 due }
 {
@@ -65,6 +67,7 @@ pub(crate) fn say_to(memory: &mut Memory, to: MachineId, due: Due)
 }
 
 /// An answer to one machine, with the numbers that it carries.
+#[tactic(auto, unfolding(crate::specs::Say::answered))]
 pub(crate) fn answer(memory: &mut Memory, to: MachineId, due: Due, first: u64, second: u64)
     ensures { memory.new ≡ answered memory.old to.0 due first second }
 {

@@ -112,12 +112,14 @@ fn merge(memory: &mut Memory, prev: Index, block: &Block<'_>) -> bool
 }
 
 // What is known to be decided rises to an index, and is never past the log.
+#[tactic(auto, unfolding(crate::specs::Accept::commit_noted))]
 fn note_commit(memory: &mut Memory, index: Index)
     ensures { memory.new ≡ commit_noted memory.old index.0 }
 {
     memory[COMMITTED] = committed(memory).max(index).0;
 }
 
+#[tactic(auto, unfolding(crate::specs::Accept::hint))]
 fn refusal(memory: &Memory, prev: Index, prev_term: Term) -> Refused
     ensures { result ≡ refused (hint_of (log_of memory.now) prev.0 prev_term.0) }
 {

@@ -129,6 +129,7 @@ fn values_end(block: &[u8], count: usize) -> Option<usize>
 }
 
 /// Are these bytes a block of `count` entries, from the first byte to the last?
+#[tactic(auto, unfolding(crate::specs::Block::block_fits))]
 pub fn is_valid_block(block: &[u8], count: usize) -> bool
     ensures { result ≡ block_fits block.now count }
 {

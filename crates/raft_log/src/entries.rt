@@ -18,6 +18,7 @@ fn entry_row(index: Index) -> usize
 }
 
 /// How many entries the log has.
+#[tactic(auto, unfolding(crate::specs::Entries::last_index))]
 pub fn last_index(memory: &Memory) -> Index
     ensures is { result.0 ≡ last_index memory.now }
     ensures bounded { result.0 ≤ 8193 }
@@ -26,6 +27,7 @@ pub fn last_index(memory: &Memory) -> Index
 }
 
 /// How many entries are known to be decided.
+#[tactic(auto, unfolding(crate::specs::Entries::commit_index))]
 pub fn committed(memory: &Memory) -> Index
     ensures is { result.0 ≡ commit_index memory.now }
     ensures bounded { result.0 ≤ 8193 }
@@ -34,6 +36,7 @@ pub fn committed(memory: &Memory) -> Index
 }
 
 /// The number of the last decision that was applied.
+#[tactic(auto, unfolding(crate::specs::Entries::applied_number))]
 pub fn applied(memory: &Memory) -> Number
     ensures is { result.0 ≡ applied_number memory.now }
     ensures bounded { result.0 ≤ 4096 }
@@ -53,6 +56,7 @@ fn row_of(memory: &Memory, index: Index) -> Option<usize>
 }
 
 /// The term of an entry; 0 where there is none.
+#[tactic(auto, unfolding(crate::specs::Entries::term_at))]
 pub fn term(memory: &Memory, index: Index) -> Term
     ensures { result.0 ≡ term_at memory.now index.0 }
 {
@@ -63,6 +67,7 @@ pub fn term(memory: &Memory, index: Index) -> Term
 }
 
 /// How many values stand up to an entry and with it.
+#[tactic(auto, unfolding(crate::specs::Entries::number_at))]
 pub fn number(memory: &Memory, index: Index) -> Number
     ensures is { result.0 ≡ number_at memory.now index.0 }
     ensures bounded { result.0 ≤ 4096 }
@@ -112,6 +117,7 @@ fn push_entry(memory: &mut Memory, index: Index, term: Term, number: Number)
 }
 
 /// Puts a value behind the last entry.
+#[tactic(auto, unfolding(crate::specs::Entries::value_appended))]
 pub(crate) fn push_value(memory: &mut Memory, term: Term, bytes: &[u8])
     requires { (last_index memory.old < 8193) × ((values memory.old < 4096) × (length bytes.now ≤ 256)) }
     ensures { memory.new ≡ value_appended memory.old term.0 bytes.now }
@@ -133,6 +139,7 @@ pub(crate) fn push_empty(memory: &mut Memory, term: Term)
 }
 
 /// Puts a value behind the last entry, and says where; `None`, and nothing changed, where it does not fit.
+#[tactic(auto, unfolding(crate::specs::Entries::value_appended))]
 pub fn append_value(memory: &mut Memory, term: Term, bytes: &[u8]) -> Option<Index>
     ensures { ValueAppended memory.old term.0 bytes.now result memory.new }
 {
@@ -146,6 +153,7 @@ pub fn append_value(memory: &mut Memory, term: Term, bytes: &[u8]) -> Option<Ind
 }
 
 /// Puts the empty entry of a new leader last, and says where: one that is last already is renewed. `None`, and nothing changed, where it does not fit.
+#[tactic(auto, unfolding(crate::specs::Entries::empty_appended))]
 pub fn append_empty(memory: &mut Memory, term: Term) -> Option<Index>
     ensures { EmptyAppended memory.old term.0 result memory.new }
 {
@@ -165,6 +173,7 @@ fn commit_rises(memory: &Memory, index: Index) -> bool
 }
 
 /// What is known to be decided rises to an index of the log; it never falls.
+#[tactic(auto, unfolding(crate::specs::Entries::commit_raised))]
 pub fn commit_to(memory: &mut Memory, index: Index)
     ensures { memory.new ≡ commit_raised memory.old index.0 }
 {
@@ -174,6 +183,7 @@ pub fn commit_to(memory: &mut Memory, index: Index)
 }
 
 /// Notes the number of the last decision that was applied.
+#[tactic(auto, unfolding(crate::specs::Entries::applied_set))]
 pub fn set_applied(memory: &mut Memory, number: Number)
     ensures { memory.new ≡ applied_set memory.old number.0 }
 {

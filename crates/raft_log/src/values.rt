@@ -65,6 +65,7 @@ pub(crate) fn put_value(memory: &Memory, slot: u64, out: &mut [u8], at: usize) -
 }
 
 /// Puts the value of a slot at the front of `out`, and says how long it is.
+#[tactic(auto, unfolding(crate::specs::Bytes::laid))]
 pub fn read_value(memory: &Memory, slot: u64, out: &mut [u8]) -> usize
     requires { (slot < 4096) × (256 ≤ length out.old) }
     ensures long { result ≡ length (value_at memory.now slot) }

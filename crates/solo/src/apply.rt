@@ -9,6 +9,7 @@ use raft_log::entries::set_applied;
 use raft_log::layout::Memory;
 
 /// Notes that a decision was applied.
+#[tactic(auto, unfolding(crate::specs::Apply::advanced))]
 pub fn advance(memory: &mut Memory, machine: Machine<Role>, number: Number)
     ensures { memory.new ≡ advanced memory.old machine number.0 }
 {

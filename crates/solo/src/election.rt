@@ -16,6 +16,7 @@ pub fn one_is_most(size: ClusterSize) -> bool
     size.0 < 2
 }
 
+#[tactic(auto, unfolding(crate::specs::Election::led))]
 fn lead(memory: &mut Memory, machine: Machine<Role>, term: Term)
     ensures { memory.new ≡ led memory.old machine term.0 }
 {
@@ -27,6 +28,7 @@ fn lead(memory: &mut Memory, machine: Machine<Role>, term: Term)
     store(memory, machine.in_term(term, Role::Leader));
 }
 
+#[tactic(auto, unfolding(crate::specs::Election::campaigned))]
 fn campaign(memory: &mut Memory, machine: Machine<Role>, term: Term)
     ensures { memory.new ≡ campaigned memory.old machine term.0 }
 {
@@ -37,6 +39,7 @@ fn campaign(memory: &mut Memory, machine: Machine<Role>, term: Term)
     }
 }
 
+#[tactic(auto, unfolding(crate::specs::Election::term_entered))]
 fn enter_term(memory: &mut Memory, machine: Machine<Role>, term: Term)
     requires { 1 ≤ machine.size.0 }
     ensures { memory.new ≡ term_entered memory.old machine term.0 }
@@ -69,6 +72,7 @@ fn wait(memory: &mut Memory, machine: Machine<Role>, elapsed: Ticks, role: Role)
 }
 
 /// Some time has passed.
+#[tactic(auto, unfolding(crate::specs::Election::ticked))]
 pub fn tick(memory: &mut Memory)
     ensures { memory.new ≡ ticked memory.old }
 {

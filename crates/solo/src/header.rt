@@ -75,6 +75,7 @@ pub fn load(memory: &Memory) -> Machine<Role>
     }
 }
 
+#[tactic(auto, unfolding(crate::specs::Header::stored))]
 pub fn store(memory: &mut Memory, machine: Machine<Role>)
     ensures { memory.new ≡ stored memory.old machine }
 {

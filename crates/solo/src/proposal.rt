@@ -11,6 +11,7 @@ use raft_log::entries::{append_value, commit_to};
 use raft_log::layout::{MAX_VALUE_BYTES, Memory};
 
 // The leader itself has the entry: with one machine that is more than half.
+#[tactic(auto, unfolding(crate::specs::Proposal::own_acked))]
 fn own_ack(memory: &mut Memory, machine: Machine<Role>, index: Index)
     ensures { memory.new ≡ own_acked memory.old machine index.0 }
 {
@@ -20,6 +21,7 @@ fn own_ack(memory: &mut Memory, machine: Machine<Role>, index: Index)
 }
 
 /// Takes a proposal, or says why not; nothing is changed then.
+#[tactic(auto, unfolding(crate::specs::Proposal::proposed, crate::specs::Proposal::taken))]
 pub fn propose(memory: &mut Memory, bytes: &[u8]) -> Result<(), Refusal>
     ensures { Proposed memory.old bytes.now result memory.new }
 {

@@ -33,11 +33,13 @@ impl Engine for Alone {
         solo::election::tick(memory);
     }
 
+    #[tactic(auto, unfolding(crate::specs::Entry::ActTold))]
     fn take_letter(_memory: &mut Memory, _from: MachineId, _bytes: &[u8], _out: &mut [u8]) -> Told {
         Told::Done
     }
 
     // Memory is made safe first, then decisions are applied.
+    #[tactic(auto, unfolding(crate::specs::Entry::ActTold, crate::specs::Machine::go_on))]
     fn go_on(memory: &mut Memory, out: &mut [u8]) -> Told {
         let machine = load(memory);
         if machine.unsettled {

@@ -31,6 +31,7 @@ pub enum Event<'a> {
 
 impl<'a> Event<'a> {
     /// The event of a number: 0 power for machine `a` of `b`; 1 propose `bytes`; 2 how far; 3 a letter, `bytes`, from machine `a`; 4 a tick; 5 go on.
+    #[tactic(auto, unfolding(crate::specs::Entry::event_of))]
     pub fn from_kind(kind: u64, a: u64, b: u64, bytes: &'a [u8]) -> Option<Event<'a>>
         ensures { EventRead kind a b bytes.entry.now result }
     {
@@ -84,6 +85,7 @@ pub trait Engine {
 }
 
 /// An event changes memory, and the first act that is due is told; what it carries stands at the front of `out`. Go on till `Done` or `No`.
+#[tactic(auto, unfolding(crate::specs::Entry::ActTold))]
 pub fn react<E: Engine>(memory: &mut Memory, event: Event<'_>, out: &mut [u8]) -> Told
     requires { 4096 ≤ length out.old }
     ensures { Did (moved E.moves memory.old (event_in event.entry)) result memory.new out.old out.new }

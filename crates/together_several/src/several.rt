@@ -20,6 +20,7 @@ use together::engine::Engine;
 pub struct Several;
 
 // Applies the next decision, if one is due.
+#[tactic(auto, unfolding(together::specs::Entry::ActTold))]
 fn apply_next(memory: &mut Memory, machine: Machine<Role>, out: &mut [u8]) -> Told
     requires { 4096 ≤ length out.old }
     ensures { Did (apply_due memory.old machine (due memory.old)) result memory.new out.old out.new }
@@ -67,6 +68,7 @@ impl Engine for Several {
     }
 
     // Memory is made safe first, then letters fly, then decisions are applied.
+    #[tactic(auto, unfolding(together::specs::Entry::ActTold, crate::specs::Machine::go_on))]
     fn go_on(memory: &mut Memory, out: &mut [u8]) -> Told {
         let machine = load(memory);
         if machine.unsettled {
