@@ -1,0 +1,85 @@
+//! Values as rows write them.
+ghost use Rattle.std.specs.Prelude.{◌≡◌, if◌then◌else◌, codes, Some};
+
+use raft_log::Index;
+use raft_log::accept::Refused;
+use std::fmt;
+use std::str::FromStr;
+use tracker::{ProgressState, VoteResult};
+
+/// A value that a row gives or expects in words.
+#[derive(Clone, Copy)]
+pub struct Word<T>(pub T);
+
+/// The words of no value.
+#[derive(Clone, Copy)]
+pub struct UnknownWord;
+
+impl FromStr for Word<bool> {
+    type Err = UnknownWord;
+
+    fn from_str(text: &str) -> Result<Word<bool>, UnknownWord> {
+        match text {
+            "y" => Ok(Word(true)),
+            "n" => Ok(Word(false)),
+            _ => Err(UnknownWord),
+        }
+    }
+}
+
+impl fmt::Display for Word<bool> {
+    ghost output = { λ word. Some (if word.0 then codes "yes" else codes "no") };
+
+    fn fmt<W: fmt::Write>(&self, f: &mut fmt::Formatter<W>) -> fmt::Result {
+        f.write_str(if self.0 { "yes" } else { "no" })
+    }
+}
+
+impl FromStr for Word<ProgressState> {
+    type Err = UnknownWord;
+
+    fn from_str(text: &str) -> Result<Word<ProgressState>, UnknownWord> {
+        match text {
+            "probe" => Ok(Word(ProgressState::Probe)),
+            "replicate" => Ok(Word(ProgressState::Replicate)),
+            _ => Err(UnknownWord),
+        }
+    }
+}
+
+impl fmt::Display for Word<ProgressState> {
+    fn fmt<W: fmt::Write>(&self, f: &mut fmt::Formatter<W>) -> fmt::Result {
+        f.write_str(match self.0 {
+            ProgressState::Probe => "probe",
+            ProgressState::Replicate => "replicate",
+        })
+    }
+}
+
+impl fmt::Display for Word<VoteResult> {
+    fn fmt<W: fmt::Write>(&self, f: &mut fmt::Formatter<W>) -> fmt::Result {
+        f.write_str(match self.0 {
+            VoteResult::Won => "won",
+            VoteResult::Lost => "lost",
+            VoteResult::Pending => "pending",
+        })
+    }
+}
+
+impl fmt::Display for Word<Option<Index>> {
+    fn fmt<W: fmt::Write>(&self, f: &mut fmt::Formatter<W>) -> fmt::Result {
+        match self.0 {
+            Some(Index(index)) => write!(f, "{index}"),
+            None => write!(f, "none"),
+        }
+    }
+}
+
+impl fmt::Display for Word<Result<Index, Refused>> {
+    fn fmt<W: fmt::Write>(&self, f: &mut fmt::Formatter<W>) -> fmt::Result {
+        match self.0 {
+            Ok(Index(last)) => write!(f, "accepted=yes; last_new={last}"),
+            Err(Refused { hint: Index(hint) }) => write!(f, "accepted=no; hint={hint}"),
+        }
+    }
+}
