@@ -1,5 +1,5 @@
 //! How many rows there are, and how many of them came out as expected.
-ghost use Rattle.std.specs.Prelude.{◌≡◌, ◌≤◌, if◌then◌else◌};
+ghost use Rattle.std.specs.Prelude.{◌≡◌, ◌+◌, ◌-◌, ◌^◌, ◌≤◌, min, if◌then◌else◌};
 
 use std::ops::AddAssign;
 
@@ -33,6 +33,9 @@ impl Count {
 }
 
 impl AddAssign for Count {
+    ghost add_assign_gives = { λ a b r.
+        (r.rows ≡ min (a.rows + b.rows) (2 ^ 64 - 1)) × (r.as_expected ≡ min (a.as_expected + b.as_expected) (2 ^ 64 - 1)) };
+
     fn add_assign(&mut self, other: Count) {
         self.rows = self.rows.saturating_add(other.rows);
         self.as_expected = self.as_expected.saturating_add(other.as_expected);

@@ -1,4 +1,6 @@
 //! A row of a table: `id | operation | given | expected`. What is given or expected is `name=value` pairs split by `; `, and `-` is an empty list.
+ghost use Rattle.std.specs.Prelude.{◌≡◌, MatchResult, Ok};
+
 use raft_log::Index;
 use std::alloc::AllocError;
 use std::str::FromStr;
@@ -57,6 +59,7 @@ pub fn is_remark(line: &str) -> bool {
 pub fn parse<T: FromStr>(text: &str, name: &'static str) -> Result<T, RowError>
 where
     T::Err: Drop,
+    ensures { MatchResult result (λ value. T.from_str_gives text.now (Ok value)) (λ why. why ≡ RowError.Unreadable name.entry) }
 {
     text.parse().map_err(|_| RowError::Unreadable(name))
 }
