@@ -1,5 +1,5 @@
 //! Entries that a leader offers, as the block that a letter would carry.
-ghost use Rattle.std.specs.Prelude.{◌<◌};
+ghost use Rattle.std.specs.Prelude.{◌≡◌, ◌<◌, IfOk};
 
 use crate::entries::{append, extent, pad};
 use crate::row::RowError;
@@ -54,7 +54,9 @@ impl Offer {
         prev: Index,
         prev_term: Term,
         commit: Index,
-    ) -> Result<Append<'_>, RowError> {
+    ) -> Result<Append<'_>, RowError>
+        ensures { IfOk result (λ append. (append.prev ≡ prev) × ((append.prev_term ≡ prev_term) × (append.commit ≡ commit))) }
+    {
         if self.count > 0 && self.prev != prev {
             return Err(RowError::Unreadable(NAME));
         }

@@ -1,5 +1,7 @@
 //! Values as rows write them.
-ghost use Rattle.std.specs.Prelude.{◌≡◌, if◌then◌else◌, codes, Some};
+ghost use Rattle.std.specs.Prelude.{◌≡◌, if◌then◌else◌, codes, Some, None, MatchResult};
+ghost use Rattle.tracker.specs.declared.majority.VoteResult.TheVariants.{Won, Lost, Pending};
+ghost use Rattle.tracker.specs.declared.progress.ProgressState.TheVariants.{Probe, Replicate};
 
 use raft_log::Index;
 use raft_log::accept::Refused;
@@ -17,6 +19,8 @@ pub struct UnknownWord;
 
 impl FromStr for Word<bool> {
     type Err = UnknownWord;
+
+    ghost from_str_gives = { λ text r. MatchResult r (λ word. text ≡ (if word.0 then codes "y" else codes "n")) (λ _. Unit) };
 
     fn from_str(text: &str) -> Result<Word<bool>, UnknownWord> {
         match text {
@@ -38,6 +42,8 @@ impl fmt::Display for Word<bool> {
 impl FromStr for Word<ProgressState> {
     type Err = UnknownWord;
 
+    ghost from_str_gives = { λ text r. MatchResult r (λ word. text ≡ elim word.0 [ Probe ↦ codes "probe" | Replicate ↦ codes "replicate" ]) (λ _. Unit) };
+
     fn from_str(text: &str) -> Result<Word<ProgressState>, UnknownWord> {
         match text {
             "probe" => Ok(Word(ProgressState::Probe)),
@@ -48,6 +54,8 @@ impl FromStr for Word<ProgressState> {
 }
 
 impl fmt::Display for Word<ProgressState> {
+    ghost output = { λ word. Some (elim word.0 [ Probe ↦ codes "probe" | Replicate ↦ codes "replicate" ]) };
+
     fn fmt<W: fmt::Write>(&self, f: &mut fmt::Formatter<W>) -> fmt::Result {
         f.write_str(match self.0 {
             ProgressState::Probe => "probe",
@@ -57,6 +65,8 @@ impl fmt::Display for Word<ProgressState> {
 }
 
 impl fmt::Display for Word<VoteResult> {
+    ghost output = { λ word. Some (elim word.0 [ Pending ↦ codes "pending" | Lost ↦ codes "lost" | Won ↦ codes "won" ]) };
+
     fn fmt<W: fmt::Write>(&self, f: &mut fmt::Formatter<W>) -> fmt::Result {
         f.write_str(match self.0 {
             VoteResult::Won => "won",
