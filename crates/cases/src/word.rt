@@ -1,5 +1,5 @@
 //! Values as rows write them.
-ghost use Rattle.std.specs.Prelude.{◌≡◌, if◌then◌else◌, codes, Some, None, MatchResult};
+ghost use Rattle.std.specs.Prelude.{◌≡◌, ◌≢◌, if◌then◌else◌, codes, Some, None, MatchResult};
 ghost use Rattle.tracker.specs.declared.majority.VoteResult.TheVariants.{Won, Lost, Pending};
 ghost use Rattle.tracker.specs.declared.progress.ProgressState.TheVariants.{Probe, Replicate};
 
@@ -20,7 +20,7 @@ pub struct UnknownWord;
 impl FromStr for Word<bool> {
     type Err = UnknownWord;
 
-    ghost from_str_gives = { λ text r. MatchResult r (λ word. text ≡ (if word.0 then codes "y" else codes "n")) (λ _. Unit) };
+    ghost from_str_gives = { λ text r. MatchResult r (λ word. text ≡ (if word.0 then codes "y" else codes "n")) (λ _. (text ≢ codes "y") × (text ≢ codes "n")) };
 
     fn from_str(text: &str) -> Result<Word<bool>, UnknownWord> {
         match text {
@@ -42,7 +42,7 @@ impl fmt::Display for Word<bool> {
 impl FromStr for Word<ProgressState> {
     type Err = UnknownWord;
 
-    ghost from_str_gives = { λ text r. MatchResult r (λ word. text ≡ elim word.0 [ Probe ↦ codes "probe" | Replicate ↦ codes "replicate" ]) (λ _. Unit) };
+    ghost from_str_gives = { λ text r. MatchResult r (λ word. text ≡ elim word.0 [ Probe ↦ codes "probe" | Replicate ↦ codes "replicate" ]) (λ _. (text ≢ codes "probe") × (text ≢ codes "replicate")) };
 
     fn from_str(text: &str) -> Result<Word<ProgressState>, UnknownWord> {
         match text {
