@@ -1,5 +1,5 @@
 //! A row of a table: `id | operation | given | expected`. What is given or expected is `name=value` pairs split by `; `, and `-` is an empty list.
-ghost use Rattle.std.specs.Prelude.{◌≡◌, MatchResult, Ok};
+ghost use Rattle.std.specs.Prelude.{◌≡◌, ◌++◌, ◌∷◌, MatchResult, Ok};
 
 use raft_log::Index;
 use std::alloc::AllocError;
@@ -53,7 +53,7 @@ impl<'a> TryFrom<&'a str> for Row<'a> {
 
 /// A line that is no row.
 pub fn is_remark(line: &str) -> bool {
-    line.is_empty() || line.starts_with("#")
+    line.is_empty() || line.starts_with('#')
 }
 
 pub fn parse<T: FromStr>(text: &str, name: &'static str) -> Result<T, RowError>
@@ -65,8 +65,10 @@ where
 }
 
 /// The two sides of `a:b` or the like.
-pub fn split_pair<'a>(text: &'a str, name: &'static str) -> Result<(&'a str, &'a str), RowError> {
-    text.split_once(":").ok_or(RowError::Unreadable(name))
+pub fn split_pair<'a>(text: &'a str, name: &'static str) -> Result<(&'a str, &'a str), RowError>
+    ensures { MatchResult result (λ sides. text.now ≡ sides.0.now ++ 58 ∷ sides.1.now) (λ why. why ≡ RowError.Unreadable name.entry) }
+{
+    text.split_once(':').ok_or(RowError::Unreadable(name))
 }
 
 pub fn parse_pair(text: &str, name: &'static str) -> Result<(u64, u64), RowError> {
@@ -79,7 +81,7 @@ impl<'a> Row<'a> {
     pub fn text(&self, name: &'static str) -> Result<&'a str, RowError> {
         self.given
             .split("; ")
-            .find_map(|pair| pair.strip_prefix(name)?.strip_prefix("="))
+            .find_map(|pair| pair.strip_prefix(name)?.strip_prefix('='))
             .ok_or(RowError::Missing(name))
     }
 

@@ -1,5 +1,6 @@
 //! Values as rows write them.
-ghost use Rattle.std.specs.Prelude.{◌≡◌, ◌≢◌, if◌then◌else◌, codes, Some, None, MatchResult};
+ghost use Rattle.std.specs.Prelude.{◌≡◌, ◌≢◌, ◌++◌, if◌then◌else◌, codes, Some, None, Ok, Err, MatchResult};
+ghost use Rattle.std.specs.Fmt.{decimal};
 ghost use Rattle.tracker.specs.declared.majority.VoteResult.TheVariants.{Won, Lost, Pending};
 ghost use Rattle.tracker.specs.declared.progress.ProgressState.TheVariants.{Probe, Replicate};
 
@@ -77,6 +78,8 @@ impl fmt::Display for Word<VoteResult> {
 }
 
 impl fmt::Display for Word<Option<Index>> {
+    ghost output = { λ word. Some (elim word.0 [ Some index ↦ decimal index.0 | None ↦ codes "none" ]) };
+
     fn fmt<W: fmt::Write>(&self, f: &mut fmt::Formatter<W>) -> fmt::Result {
         match self.0 {
             Some(Index(index)) => write!(f, "{index}"),
@@ -86,6 +89,8 @@ impl fmt::Display for Word<Option<Index>> {
 }
 
 impl fmt::Display for Word<Result<Index, Refused>> {
+    ghost output = { λ word. Some (elim word.0 [ Ok last ↦ codes "accepted=yes; last_new=" ++ decimal last.0 | Err refused ↦ codes "accepted=no; hint=" ++ decimal refused.hint.0 ]) };
+
     fn fmt<W: fmt::Write>(&self, f: &mut fmt::Formatter<W>) -> fmt::Result {
         match self.0 {
             Ok(Index(last)) => write!(f, "accepted=yes; last_new={last}"),
