@@ -1,5 +1,6 @@
 //! A row of a table: `id | operation | given | expected`. What is given or expected is `name=value` pairs split by `; `, and `-` is an empty list.
-ghost use Rattle.std.specs.Prelude.{◌≡◌, ◌++◌, ◌∷◌, MatchResult, Ok};
+ghost use Rattle.std.specs.Prelude.{◌≡◌, ◌==◌, MatchResult, Ok, length};
+ghost use Rattle.std.specs.List.{before_first, after_first, position_or_len};
 
 use raft_log::Index;
 use std::alloc::AllocError;
@@ -66,7 +67,7 @@ where
 
 /// The two sides of `a:b` or the like.
 pub fn split_pair<'a>(text: &'a str, name: &'static str) -> Result<(&'a str, &'a str), RowError>
-    ensures { MatchResult result (λ sides. text.now ≡ sides.0.now ++ 58 ∷ sides.1.now) (λ why. why ≡ RowError.Unreadable name.entry) }
+    ensures { MatchResult result (λ sides. (sides.0.now ≡ before_first (λ b. b == 58) text.now) × (sides.1.now ≡ after_first (λ b. b == 58) text.now)) (λ why. (why ≡ RowError.Unreadable name.entry) × (position_or_len (λ b. b == 58) text.now ≡ length text.now)) }
 {
     text.split_once(':').ok_or(RowError::Unreadable(name))
 }

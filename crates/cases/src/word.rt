@@ -1,6 +1,5 @@
 //! Values as rows write them.
-ghost use Rattle.std.specs.Prelude.{◌≡◌, ◌≢◌, ◌++◌, if◌then◌else◌, codes, Some, None, Ok, Err, MatchResult};
-ghost use Rattle.std.specs.Fmt.{decimal};
+ghost use Rattle.std.specs.Prelude.{◌≡◌, ◌≢◌, ◌++◌, if◌then◌else◌, codes, decimal, Some, None, Ok, Err, MatchResult};
 ghost use Rattle.tracker.specs.declared.majority.VoteResult.TheVariants.{Won, Lost, Pending};
 ghost use Rattle.tracker.specs.declared.progress.ProgressState.TheVariants.{Probe, Replicate};
 
