@@ -39,7 +39,7 @@ fn answer_commit(heap: Global, row: &Row<'_>, memory: &mut Memory) -> Result<Str
 
 fn answer_up_to_date(heap: Global, row: &Row<'_>, memory: &Memory) -> Result<String, RowError> {
     let last_index = row.index("last_index")?;
-    let last_term = row.get("last_term").map(Term)?;
+    let last_term = Term(row.get("last_term")?);
     let up_to_date = Word(is_up_to_date(memory, last_index, last_term));
     Ok(format!(in heap; "up_to_date={up_to_date}")?)
 }
@@ -75,7 +75,7 @@ fn answer_maybe_append(
 ) -> Result<String, RowError> {
     let offer = Offer::parse(heap, row.list("offered")?)?;
     let prev = row.index("prev_index")?;
-    let prev_term = row.get("prev_term").map(Term)?;
+    let prev_term = Term(row.get("prev_term")?);
     commit_to(memory, row.index("committed")?);
     let append = offer.append(prev, prev_term, row.index("leader_commit")?)?;
     let answer = Word(maybe_append(memory, &append));
