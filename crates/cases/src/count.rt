@@ -1,5 +1,7 @@
 //! How many rows there are, and how many of them came out as expected.
-ghost use Rattle.std.specs.Prelude.{◌≡◌, ◌≤◌};
+ghost use Rattle.std.specs.Prelude.{◌≡◌, ◌+◌, ◌-◌, ◌^◌, ◌≤◌, min, if◌then◌else◌};
+
+use std::ops::AddAssign;
 
 #[derive(Clone, Copy)]
 pub struct Count {
@@ -18,19 +20,24 @@ impl Count {
         }
     }
 
-    /// With the rows of another table.
-    pub fn plus(self, other: Count) -> Count {
+    /// One row.
+    pub fn row(as_expected: bool) -> Count
+        ensures rows { result.rows ≡ 1 }
+        ensures as_expected { result.as_expected ≡ (if as_expected then 1 else 0) }
+    {
         Count {
-            rows: self.rows.saturating_add(other.rows),
-            as_expected: self.as_expected.saturating_add(other.as_expected),
+            rows: 1,
+            as_expected: u64::from(as_expected),
         }
     }
+}
 
-    /// With one row more.
-    pub fn plus_row(self, as_expected: bool) -> Count {
-        Count {
-            rows: self.rows.saturating_add(1),
-            as_expected: self.as_expected.saturating_add(u64::from(as_expected)),
-        }
+impl AddAssign for Count {
+    ghost add_assign_gives = { λ a b r.
+        (r.rows ≡ min (a.rows + b.rows) (2 ^ 64 - 1)) × (r.as_expected ≡ min (a.as_expected + b.as_expected) (2 ^ 64 - 1)) };
+
+    fn add_assign(&mut self, other: Count) {
+        self.rows = self.rows.saturating_add(other.rows);
+        self.as_expected = self.as_expected.saturating_add(other.as_expected);
     }
 }

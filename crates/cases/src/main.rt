@@ -9,19 +9,16 @@ mod offer;
 mod progress;
 mod row;
 mod table;
+mod word;
 
 use count::Count;
 use table::{Table, say};
 
-fn run(rt: &HostRuntime) -> anyhow::Result<()> {
+fn main(rt: HostRuntime) -> anyhow::Result<()> {
     let mut all = Count::none();
     for table in Table::ALL {
-        all = all.plus(table.go_through(rt)?);
+        all += table.go_through(&rt)?;
     }
     rt.println("all tables")?;
-    say(rt, all)
-}
-
-fn main(rt: HostRuntime) -> anyhow::Result<()> {
-    run(&rt)
+    say(&rt, all)
 }

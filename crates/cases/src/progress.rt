@@ -1,59 +1,50 @@
 //! How far another machine is known to be, and what it is sent next.
-use crate::row::{Row, RowError, choice};
-use raft_log::Index;
+use crate::row::{Row, RowError};
+use crate::word::Word;
 use std::alloc::Global;
-use tracker::{Progress, ProgressState};
+use std::fmt;
+use tracker::Progress;
 
 pub fn answer(heap: Global, row: &Row<'_>) -> Result<String, RowError> {
     let mut progress = progress_of(row)?;
     match row.operation {
         "become_probe" => {
             progress.become_probe();
-            state_after(heap, &progress)
+            after(heap, "state", Word(progress.state), &progress)
         }
         "become_replicate" => {
             progress.become_replicate();
-            state_after(heap, &progress)
+            after(heap, "state", Word(progress.state), &progress)
         }
         "maybe_update" => {
-            let changed = progress.maybe_update(Index(row.number("acked")?));
-            change(heap, changed, &progress)
+            let changed = progress.maybe_update(row.index("acked")?);
+            after(heap, "changed", Word(changed), &progress)
         }
         "maybe_decr_to" => {
-            let rejected = Index(row.number("rejected")?);
-            let changed = progress.maybe_decr_to(rejected, Index(row.number("last")?));
-            change(heap, changed, &progress)
+            let changed = progress.maybe_decr_to(row.index("rejected")?, row.index("last")?);
+            after(heap, "changed", Word(changed), &progress)
         }
         _ => Err(RowError::Operation),
     }
 }
 
 fn progress_of(row: &Row<'_>) -> Result<Progress, RowError> {
-    let state = match row.text("state")? {
-        "probe" => ProgressState::Probe,
-        "replicate" => ProgressState::Replicate,
-        _ => return Err(RowError::Unreadable("state")),
-    };
+    let Word(state) = row.get("state")?;
     Ok(Progress {
-        matched: Index(row.number("match")?),
-        next_index: Index(row.number("next")?),
+        matched: row.index("match")?,
+        next_index: row.index("next")?,
         state,
     })
 }
 
-fn state_after(heap: Global, progress: &Progress) -> Result<String, RowError> {
-    let state = match progress.state {
-        ProgressState::Probe => "probe",
-        ProgressState::Replicate => "replicate",
-    };
+// What is known after an operation, with what it answered before.
+fn after<W: fmt::Display + Drop>(
+    heap: Global,
+    name: &str,
+    word: W,
+    progress: &Progress,
+) -> Result<String, RowError> {
     let matched = progress.matched.0;
     let next = progress.next_index.0;
-    Ok(format!(in heap; "state={state}; match={matched}; next={next}")?)
-}
-
-fn change(heap: Global, changed: bool, progress: &Progress) -> Result<String, RowError> {
-    let changed = choice(changed);
-    let matched = progress.matched.0;
-    let next = progress.next_index.0;
-    Ok(format!(in heap; "changed={changed}; match={matched}; next={next}")?)
+    Ok(format!(in heap; "{name}={word}; match={matched}; next={next}")?)
 }

@@ -1,10 +1,10 @@
 //! The tables: each is a file of rows, and says what the library answers to a row.
 use crate::count::Count;
-use crate::row::{Row, RowError, is_remark, parse_row};
+use crate::row::{Row, RowError, is_remark};
 use crate::{log, majority, progress};
 use anyhow::anyhow;
 use std::alloc::Global;
-use std::fs;
+use std::{fmt, fs};
 
 #[derive(Clone, Copy)]
 pub enum Table {
@@ -14,6 +14,17 @@ pub enum Table {
     Unstable,
 }
 
+impl fmt::Display for Table {
+    fn fmt<W: fmt::Write>(&self, f: &mut fmt::Formatter<W>) -> fmt::Result {
+        f.write_str(match self {
+            Table::Majority => "majority",
+            Table::Progress => "progress",
+            Table::Log => "log",
+            Table::Unstable => "unstable",
+        })
+    }
+}
+
 impl Table {
     pub const ALL: [Table; 4] = [
         Table::Majority,
@@ -21,24 +32,6 @@ impl Table {
         Table::Log,
         Table::Unstable,
     ];
-
-    fn name(self) -> &'static str {
-        match self {
-            Table::Majority => "majority",
-            Table::Progress => "progress",
-            Table::Log => "log",
-            Table::Unstable => "unstable",
-        }
-    }
-
-    fn file(self) -> &'static str {
-        match self {
-            Table::Majority => "majority.txt",
-            Table::Progress => "progress.txt",
-            Table::Log => "log.txt",
-            Table::Unstable => "unstable.txt",
-        }
-    }
 
     // What the library answers, in the words that a row expects it in.
     fn answer(self, heap: Global, row: &Row<'_>) -> Result<String, RowError> {
@@ -51,7 +44,7 @@ impl Table {
 
     // What is to be said of a row that does not come out as expected.
     fn difference(self, heap: Global, line: &str) -> Result<Option<String>, RowError> {
-        let row = parse_row(line)?;
+        let row = Row::try_from(line)?;
         let came = self.answer(heap, &row)?;
         if came.as_str() == row.expected {
             return Ok(None);
@@ -59,30 +52,20 @@ impl Table {
         Ok(Some(format!(in heap; "{}: {came}, expected {}", row.id, row.expected)?))
     }
 
-    fn read(self, rt: &HostRuntime) -> anyhow::Result<String> {
-        match fs::read_to_string(rt, self.file()) {
-            Ok(text) => Ok(text),
-            Err(why) => Err(anyhow!(format!(in rt.alloc(); "{}: {why}", self.file())?)),
-        }
-    }
-
     /// Goes through all rows, and prints those that do not come out as expected, and how many do.
     pub fn go_through(self, rt: &HostRuntime) -> anyhow::Result<Count> {
-        let text = self.read(rt)?;
-        rt.println(self.name())?;
+        let file = format!(in rt.alloc(); "{self}.txt")?;
+        let text = fs::read_to_string(rt, &file).map_err(|why| anyhow!("{file}: {why}"))?;
+        rt.println(self)?;
         let mut count = Count::none();
         for (place, line) in text.as_str().lines().enumerate() {
             if is_remark(line) {
                 continue;
             }
-            let difference = match self.difference(rt.alloc(), line) {
-                Ok(difference) => difference,
-                Err(why) => {
-                    let line = place.saturating_add(1);
-                    return Err(anyhow!(format!(in rt.alloc(); "{}:{line}: {why}", self.file())?));
-                }
-            };
-            count = count.plus_row(difference.is_none());
+            let difference = self
+                .difference(rt.alloc(), line)
+                .map_err(|why| anyhow!("{file}:{}: {why}", place.saturating_add(1)))?;
+            count += Count::row(difference.is_none());
             if let Some(what) = difference {
                 println!(rt; "  {what}")?;
             }
