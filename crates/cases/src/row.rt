@@ -4,8 +4,8 @@ ghost use Rattle.std.specs.List.{before_first, after_first, position_or_len};
 
 use raft_log::Index;
 use std::alloc::AllocError;
+use std::fmt;
 use std::str::FromStr;
-use thiserror::Error;
 
 #[derive(Clone, Copy)]
 pub struct Row<'a> {
@@ -16,22 +16,36 @@ pub struct Row<'a> {
 }
 
 /// Why a row cannot be read.
-#[derive(Clone, Copy, Debug, PartialEq, Eq, Error)]
+#[derive(Clone, Copy, Debug, PartialEq, Eq)]
 pub enum RowError {
-    #[error("not four columns")]
     Columns,
-    #[error("an operation that this table does not have")]
     Operation,
-    #[error("no {0} is given")]
+    // No such name is given.
     Missing(&'static str),
     // What is given by this name cannot be read.
-    #[error("{0} cannot be read")]
     Unreadable(&'static str),
     // It is beyond what the library has room for.
-    #[error("{0} is too large")]
     TooLarge(&'static str),
-    #[error("no memory")]
-    Memory(#[from] AllocError),
+    Memory,
+}
+
+impl fmt::Display for RowError {
+    fn fmt<W: fmt::Write>(&self, f: &mut fmt::Formatter<W>) -> fmt::Result {
+        match self {
+            RowError::Columns => write!(f, "not four columns"),
+            RowError::Operation => write!(f, "an operation that this table does not have"),
+            RowError::Missing(name) => write!(f, "no {name} is given"),
+            RowError::Unreadable(name) => write!(f, "{name} cannot be read"),
+            RowError::TooLarge(name) => write!(f, "{name} is too large"),
+            RowError::Memory => write!(f, "no memory"),
+        }
+    }
+}
+
+impl From<AllocError> for RowError {
+    fn from(_: AllocError) -> RowError {
+        RowError::Memory
+    }
 }
 
 impl<'a> TryFrom<&'a str> for Row<'a> {
