@@ -6,6 +6,7 @@ ghost use Rattle.raft_log.specs.Values.{bytes_at, value_length, value_at, byte_o
 
 use super::bytes::put_u64;
 use super::layout::{MAX_VALUE_BYTES, Memory, VALUE_WORDS, VALUES};
+use std::array;
 
 fn row_of(slot: u64) -> usize
     requires { slot < 4096 }
@@ -74,25 +75,19 @@ pub fn read_value(memory: &Memory, slot: u64, out: &mut [u8]) -> usize
     put_value(memory, slot, out, 0)
 }
 
-fn byte_or_zero(bytes: &[u8], i: usize) -> u64
+// Past the end a byte counts as 0.
+fn byte_or_zero(bytes: &[u8], i: usize) -> u8
     ensures { result ≡ byte_or bytes.now i }
 {
-    bytes.get(i).map_or(0, |byte| u64::from(*byte))
+    bytes.get(i).copied().unwrap_or(0)
 }
 
+// Eight bytes as a word.
 fn word_of(bytes: &[u8], j: usize) -> u64
     requires { j < 32 }
     ensures { result ≡ word_of bytes.now j }
 {
-    let b0 = byte_or_zero(bytes, 8 * j);
-    let b1 = byte_or_zero(bytes, 8 * j + 1);
-    let b2 = byte_or_zero(bytes, 8 * j + 2);
-    let b3 = byte_or_zero(bytes, 8 * j + 3);
-    let b4 = byte_or_zero(bytes, 8 * j + 4);
-    let b5 = byte_or_zero(bytes, 8 * j + 5);
-    let b6 = byte_or_zero(bytes, 8 * j + 6);
-    let b7 = byte_or_zero(bytes, 8 * j + 7);
-    b0 + 256 * (b1 + 256 * (b2 + 256 * (b3 + 256 * (b4 + 256 * (b5 + 256 * (b6 + 256 * b7))))))
+    u64::from_le_bytes(array::from_fn(|k| byte_or_zero(bytes, 8 * j + k)))
 }
 
 /// Puts a value of up to 256 bytes into a slot.
