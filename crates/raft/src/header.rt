@@ -10,19 +10,20 @@ pub const ELECTION_TICKS: u64 = 10;
 
 pub const MAX_SIZE: u64 = 7;
 
-const SIZE: usize = 0;
+/// Where the words of a machine stand, one after the other.
+pub const SIZE: usize = 0;
 
-const ID: usize = 1;
+pub const ID: usize = 1;
 
-const TERM: usize = 2;
+pub const TERM: usize = 2;
 
-const ROLE: usize = 3;
+pub const ROLE: usize = 3;
 
-const ELAPSED: usize = 4;
+pub const ELAPSED: usize = 4;
 
-const SINCE: usize = 5;
+pub const SINCE: usize = 5;
 
-const UNSETTLED: usize = 6;
+pub const UNSETTLED: usize = 6;
 
 const HEARD: usize = 7;
 

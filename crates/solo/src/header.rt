@@ -2,23 +2,11 @@
 ghost use Rattle.std.specs.Prelude.{◌≡◌, ◌≤◌};
 ghost use Rattle.solo.specs.Header.{role_of, role_word, elapsed_word, loaded, stored};
 
-use raft::header::{ClusterSize, ELECTION_TICKS, Machine, Ticks};
+use raft::header::{
+    ClusterSize, ELAPSED, ELECTION_TICKS, ID, Machine, ROLE, SINCE, SIZE, TERM, Ticks, UNSETTLED,
+};
 use raft_log::layout::Memory;
 use raft_log::{MachineId, Number, Term};
-
-const SIZE: usize = 0;
-
-const ID: usize = 1;
-
-const TERM: usize = 2;
-
-const ROLE: usize = 3;
-
-const ELAPSED: usize = 4;
-
-const SINCE: usize = 5;
-
-const UNSETTLED: usize = 6;
 
 /// What each kind of machine knows. One that does not lead counts the ticks since it came to its term or last heard from the leader.
 #[derive(Clone, Copy, Debug, PartialEq, Eq)]
