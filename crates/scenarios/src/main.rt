@@ -1,4 +1,4 @@
-//! Scenarios of upstream's tests, driven by `together::engine::react` on machines that really run. A line for each: its id and `ok`, or what differs.
+//! Scenarios of upstream's tests, on machines of `together_several` that really run. A line for each: its id and `ok`, or what differs.
 #![tactic(auto)]
 
 mod appends;

@@ -4,7 +4,7 @@ use anyhow::{Context, bail};
 use raft::header::ClusterSize;
 use raft_log::MachineId;
 use raft_log::layout::{MEMORY_WORDS, Memory};
-use std::alloc::Global;
+use std::alloc::{AllocError, Global};
 use std::fmt::Display;
 use std::mem;
 use together::Told;
@@ -34,6 +34,14 @@ pub struct Node {
     applied: String,
 }
 
+/// A memory of zeros. It is large and goes over the stack to the heap: a `?` would move it there once more.
+pub fn empty_memory(heap: Global) -> Result<Box<Memory>, AllocError> {
+    match Box::new(heap, [0; MEMORY_WORDS]) {
+        Ok(memory) => Ok(memory),
+        Err(_) => Err(AllocError),
+    }
+}
+
 impl Node {
     /// A machine that power has come to.
     pub fn started(heap: Global, id: MachineId, size: ClusterSize) -> anyhow::Result<Node> {
@@ -41,8 +49,8 @@ impl Node {
             heap,
             id,
             size,
-            memory: Box::new(heap, [0; MEMORY_WORDS])?,
-            stable: Box::new(heap, [0; MEMORY_WORDS])?,
+            memory: empty_memory(heap)?,
+            stable: empty_memory(heap)?,
             out: Box::new(heap, [0; MAX_LETTER_BYTES])?,
             sent: Vec::new(heap),
             acts: String::new(heap),
@@ -93,8 +101,12 @@ impl Node {
     pub fn react(&mut self, event: Event<'_>) -> anyhow::Result<()> {
         let mut told = self.told(event);
         for _ in 0..MAX_ACTS {
-            if !self.does(told)? {
-                return Ok(());
+            match told {
+                Told::Settle => self.settle()?,
+                Told::Applies(number, long) => self.apply(number, long)?,
+                Told::Flies(to, long) => self.send(MachineId(to), long)?,
+                Told::No(number) => return self.note(format_args!("refused {number}")),
+                Told::Shows(_) | Told::Done => return Ok(()),
             }
             told = self.told(Event::GoOn);
         }
@@ -103,24 +115,6 @@ impl Node {
 
     fn told(&mut self, event: Event<'_>) -> Told {
         react::<Several>(&mut self.memory, event, &mut *self.out)
-    }
-
-    // Does an act, and says whether more may follow.
-    fn does(&mut self, told: Told) -> anyhow::Result<bool> {
-        match told {
-            Told::Settle => {
-                self.keep();
-                self.note("settle")?;
-            }
-            Told::Applies(number, long) => self.apply(number, long)?,
-            Told::Flies(to, long) => self.send(MachineId(to), long)?,
-            Told::Shows(_) | Told::Done => return Ok(false),
-            Told::No(number) => {
-                self.note(format_args!("refused {number}"))?;
-                return Ok(false);
-            }
-        }
-        Ok(true)
     }
 
     fn note<A: Display + Drop>(&mut self, act: A) -> anyhow::Result<()> {
@@ -136,6 +130,11 @@ impl Node {
         self.out
             .get(..long as usize)
             .context("an act that carries too much")
+    }
+
+    fn settle(&mut self) -> anyhow::Result<()> {
+        self.keep();
+        self.note("settle")
     }
 
     fn apply(&mut self, number: u64, long: u64) -> anyhow::Result<()> {

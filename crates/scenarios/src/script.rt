@@ -59,65 +59,55 @@ pub struct Script {
     pub steps: &'static [Step],
 }
 
-#[derive(Drop)]
-struct Scene {
-    net: Net,
-    check: Check,
-}
-
-impl Scene {
-    fn perform(&mut self, step: Step) -> anyhow::Result<()> {
-        let net = &mut self.net;
-        let check = &mut self.check;
-        match step {
-            Step::Cut(a, b) => net.cut(a, b)?,
-            Step::Isolate(node) => net.isolate(node)?,
-            Step::Alone => net.isolate_all()?,
-            Step::LoseAppends => net.appends_drop = true,
-            Step::Heal => net.heal(),
-            Step::Log(node, terms, commit) => net.node(node)?.set_log(terms, commit),
-            Step::Waits(node, term) => net.node(node)?.set_role(term, follower(false)),
-            Step::Follows(node, term) => net.node(node)?.set_role(term, follower(true)),
-            Step::Stands(node, term) => net.node(node)?.set_role(term, Role::Candidate(Ticks(0))),
-            Step::Leads(node, term) => net.node(node)?.set_role(term, Role::Leader),
-            Step::Progress(node, other, matched, next) => {
-                let other = net.id(other);
-                net.node(node)?.set_progress(other, matched, next);
-            }
-            Step::Tick(node, times) => net.ticks(node, times)?,
-            Step::Propose(node, value) => net.propose(node, value.as_bytes())?,
-            Step::Restart(node) => net.node(node)?.restart()?,
-            Step::Stand(node) => net.stand(node)?,
-            Step::Campaign(node) => net.campaign(node)?,
-            Step::Ask(from, to, term, last) => net.post(from, to, ask(term, last))?,
-            Step::Vote(from, to, term) => net.post(from, to, vote(term, true))?,
-            Step::Deny(from, to, term) => net.post(from, to, vote(term, false))?,
-            Step::Ack(from, to, term, index) => net.post(from, to, ack(term, index))?,
-            Step::Reject(from, to, term, index) => net.post(from, to, reject(term, index))?,
-            Step::Here(from, to, term) => net.post(from, to, here(term))?,
-            Step::Append(from, to, term, (prev, prev_term), commit, entries) => net.post_append(
-                from,
-                to,
-                Offer {
-                    term,
-                    prev,
-                    prev_term,
-                    commit,
-                    entries,
-                },
-            )?,
-            Step::Bytes(from, to, text) => net.post_bytes(from, to, text.as_bytes())?,
-            Step::Forget(node) => net.node(node)?.forget_acts(),
-            Step::Is(node, expected) => check.state(net.node(node)?, expected)?,
-            Step::Did(node, expected) => check.acts(net.node(node)?, expected)?,
-            Step::Applied(node, expected) => check.applied(net.node(node)?, expected)?,
-            Step::Knows(node, other, expected) => {
-                let other = net.id(other);
-                check.progress(net.node(node)?, other, expected)?;
-            }
+fn perform(net: &mut Net, check: &mut Check, step: Step) -> anyhow::Result<()> {
+    match step {
+        Step::Cut(a, b) => net.cut(a, b)?,
+        Step::Isolate(node) => net.isolate(node)?,
+        Step::Alone => net.isolate_all()?,
+        Step::LoseAppends => net.appends_drop = true,
+        Step::Heal => net.heal(),
+        Step::Log(node, terms, commit) => net.node(node)?.set_log(terms, commit),
+        Step::Waits(node, term) => net.node(node)?.set_role(term, follower(false)),
+        Step::Follows(node, term) => net.node(node)?.set_role(term, follower(true)),
+        Step::Stands(node, term) => net.node(node)?.set_role(term, Role::Candidate(Ticks(0))),
+        Step::Leads(node, term) => net.node(node)?.set_role(term, Role::Leader),
+        Step::Progress(node, other, matched, next) => {
+            let other = net.id(other);
+            net.node(node)?.set_progress(other, matched, next);
         }
-        Ok(())
+        Step::Tick(node, times) => net.ticks(node, times)?,
+        Step::Propose(node, value) => net.propose(node, value.as_bytes())?,
+        Step::Restart(node) => net.node(node)?.restart()?,
+        Step::Stand(node) => net.stand(node)?,
+        Step::Campaign(node) => net.campaign(node)?,
+        Step::Ask(from, to, term, last) => net.post(from, to, ask(term, last))?,
+        Step::Vote(from, to, term) => net.post(from, to, vote(term, true))?,
+        Step::Deny(from, to, term) => net.post(from, to, vote(term, false))?,
+        Step::Ack(from, to, term, index) => net.post(from, to, ack(term, index))?,
+        Step::Reject(from, to, term, index) => net.post(from, to, reject(term, index))?,
+        Step::Here(from, to, term) => net.post(from, to, here(term))?,
+        Step::Append(from, to, term, (prev, prev_term), commit, entries) => net.post_append(
+            from,
+            to,
+            Offer {
+                term,
+                prev,
+                prev_term,
+                commit,
+                entries,
+            },
+        )?,
+        Step::Bytes(from, to, text) => net.post_bytes(from, to, text.as_bytes())?,
+        Step::Forget(node) => net.node(node)?.forget_acts(),
+        Step::Is(node, expected) => check.state(net.node(node)?, expected)?,
+        Step::Did(node, expected) => check.acts(net.node(node)?, expected)?,
+        Step::Applied(node, expected) => check.applied(net.node(node)?, expected)?,
+        Step::Knows(node, other, expected) => {
+            let other = net.id(other);
+            check.progress(net.node(node)?, other, expected)?;
+        }
     }
+    Ok(())
 }
 
 fn follower(heard: bool) -> Role {
@@ -172,12 +162,10 @@ fn here(term: u64) -> Message<usize>
 
 /// Goes through the steps of a scenario.
 pub fn play(heap: Global, script: &Script) -> anyhow::Result<Check> {
-    let mut scene = Scene {
-        net: Net::new(heap, script.size)?,
-        check: Check::new(heap),
-    };
+    let mut net = Net::new(heap, script.size)?;
+    let mut check = Check::new(heap);
     for step in script.steps {
-        scene.perform(*step)?;
+        perform(&mut net, &mut check, *step)?;
     }
-    Ok(scene.check)
+    Ok(check)
 }

@@ -1,7 +1,7 @@
 //! Memories and letters made by hand: a machine at a term, in a role, with a log; a letter from another.
 ghost use Rattle.messages.specs.Message.{Sendable};
 
-use crate::node::Node;
+use crate::node::{Node, empty_memory};
 use anyhow::ensure;
 use messages::encoder::encode;
 use messages::{MAX_LETTER_BYTES, Message};
@@ -9,12 +9,12 @@ use raft::header::{Machine, Role, load, store};
 use raft::rows::{DUE, MATCHED, NEXT};
 use raft_log::block::MAX_BLOCK_ENTRIES;
 use raft_log::entries::{append_value, commit_to};
-use raft_log::layout::{MEMORY_WORDS, Memory};
+use raft_log::layout::Memory;
 use raft_log::{Index, MachineId, Term};
 use std::alloc::{AllocError, Global};
 
-// Each entry that is made by hand holds the letter of its place.
-const LONGEST: u64 = 26;
+// No log that is made by hand is longer: each entry holds the letter of its place.
+const LONGEST_LOG: u64 = 26;
 
 /// An append as a leader sends it; of its entries only the terms are given.
 #[derive(Clone, Copy)]
@@ -26,7 +26,7 @@ pub struct Offer<'a> {
     pub entries: &'a [u64],
 }
 
-// Entries with a value for each term, behind what the log has; they count as the ones from place `first` on.
+// Entries with a value for each term, behind what the log has; the first holds the letter of place `first`.
 fn add_entries(memory: &mut Memory, first: usize, terms: &[u64]) {
     for (term, letter) in terms.iter().zip((b'a'..=b'z').skip(first)) {
         let _ = append_value(memory, Term(*term), &[letter]);
@@ -53,10 +53,10 @@ fn letter_of(heap: Global, message: Message<usize>, memory: &Memory) -> Result<V
 pub fn append_letter(heap: Global, offer: Offer<'_>) -> anyhow::Result<Vec<u8>> {
     let entries = offer.entries.len();
     ensure!(
-        offer.prev <= LONGEST && entries <= MAX_BLOCK_ENTRIES,
+        offer.prev <= LONGEST_LOG && entries <= MAX_BLOCK_ENTRIES,
         "an append beyond what is made by hand"
     );
-    let mut memory = Box::new(heap, [0; MEMORY_WORDS])?;
+    let mut memory = empty_memory(heap)?;
     fill(&mut memory, offer.prev);
     add_entries(&mut memory, offer.prev as usize, offer.entries);
     let message = Message::Append {
@@ -73,7 +73,7 @@ pub fn append_letter(heap: Global, offer: Offer<'_>) -> anyhow::Result<Vec<u8>> 
 pub fn letter(heap: Global, message: Message<usize>) -> Result<Vec<u8>, AllocError>
     requires { Sendable message }
 {
-    let memory = Box::new(heap, [0; MEMORY_WORDS])?;
+    let memory = empty_memory(heap)?;
     letter_of(heap, message, &memory)
 }
 
