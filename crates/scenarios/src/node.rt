@@ -62,12 +62,12 @@ impl Node {
 
     /// Memory as it is counts as safe.
     pub fn keep(&mut self) {
-        *self.stable = *self.memory;
+        self.stable.copy_from_slice(&*self.memory);
     }
 
     /// Power goes and comes: memory is what was last made safe.
     pub fn restart(&mut self) -> anyhow::Result<()> {
-        *self.memory = *self.stable;
+        self.memory.copy_from_slice(&*self.stable);
         self.power()
     }
 
