@@ -1,9 +1,8 @@
 //! A follower and the appends that come to it: node 1 of three at term 2, where node 2 leads.
-use crate::check::Report;
 use crate::script::Script;
 use crate::script::Step::{Alone, Append, Did, Is, Log, Waits};
 
-static SCRIPTS: [Script; 21] = [
+pub static SCRIPTS: [Script; 21] = [
     // The log is 1:1 2:2, nothing is decided.
     Script {
         id: "T050",
@@ -267,7 +266,3 @@ static SCRIPTS: [Script; 21] = [
         ],
     },
 ];
-
-pub fn play(rt: &HostRuntime, report: &mut Report) -> anyhow::Result<()> {
-    report.play(rt, &SCRIPTS)
-}

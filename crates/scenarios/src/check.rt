@@ -1,12 +1,10 @@
 //! What came out of a scenario, beside what upstream's test expects.
 use crate::node::Node;
 use crate::script::{Script, play};
-use crate::view::{progress_text, state_text};
-use std::alloc::{AllocError, Global};
-
-fn difference(heap: Global, what: &str, is: &str, expected: &str) -> Result<String, AllocError> {
-    format!(in heap; "\n  {what}: {is}\n    expected: {expected}")
-}
+use crate::view::{Progress, State};
+use raft_log::MachineId;
+use std::alloc::Global;
+use std::fmt::Display;
 
 #[derive(Drop)]
 pub struct Check {
@@ -27,25 +25,27 @@ impl Check {
         self.differences.as_str()
     }
 
-    pub fn same(&mut self, what: &str, is: &str, expected: &str) -> anyhow::Result<()> {
-        if is == expected {
-            return Ok(());
+    fn same<T: Display + Drop>(&mut self, what: &str, is: T, expected: &str) -> anyhow::Result<()> {
+        let is = is.to_string(self.heap)?;
+        if is.as_str() != expected {
+            write!(
+                self.differences,
+                "\n  {what}: {is}\n    expected: {expected}"
+            )?;
         }
-        let line = difference(self.heap, what, is, expected)?;
-        self.differences.push_str(line.as_str())?;
         Ok(())
     }
 
     /// Role, term, commit and log of a machine.
     pub fn state(&mut self, node: &Node, expected: &str) -> anyhow::Result<()> {
-        let is = state_text(self.heap, &node.memory)?;
-        self.same("state", is.as_str(), expected)
+        self.same("state", State(&node.memory), expected)
     }
 
     /// What a machine did since it was last asked.
     pub fn acts(&mut self, node: &mut Node, expected: &str) -> anyhow::Result<()> {
-        let is = node.take_acts();
-        self.same("acts", is.as_str(), expected)
+        self.same("acts", node.acts(), expected)?;
+        node.forget_acts();
+        Ok(())
     }
 
     /// All that a machine applied.
@@ -54,29 +54,25 @@ impl Check {
     }
 
     /// How far another machine is, as a leader knows.
-    pub fn progress(&mut self, node: &Node, other: u64, expected: &str) -> anyhow::Result<()> {
-        let is = progress_text(self.heap, &node.memory, other)?;
-        self.same("progress", is.as_str(), expected)
+    pub fn progress(
+        &mut self,
+        node: &Node,
+        other: MachineId,
+        expected: &str,
+    ) -> anyhow::Result<()> {
+        self.same("progress", Progress(&node.memory, other), expected)
     }
 }
 
 /// Counts scenarios, and prints a line for each.
-#[derive(Drop)]
+#[derive(Default, Drop)]
 pub struct Report {
     scenarios: u64,
     as_expected: u64,
 }
 
 impl Report {
-    pub fn new() -> Report {
-        Report {
-            scenarios: 0,
-            as_expected: 0,
-        }
-    }
-
-    fn line(&mut self, rt: &HostRuntime, id: &str, check: Check) -> anyhow::Result<()> {
-        let differences = check.differences();
+    fn line(&mut self, rt: &impl Print, id: &str, differences: &str) -> anyhow::Result<()> {
         self.scenarios = self.scenarios.saturating_add(1);
         if differences.is_empty() {
             self.as_expected = self.as_expected.saturating_add(1);
@@ -88,14 +84,19 @@ impl Report {
     }
 
     /// Plays scenarios, one after the other.
-    pub fn play(&mut self, rt: &HostRuntime, scripts: &[Script]) -> anyhow::Result<()> {
+    pub fn play(
+        &mut self,
+        rt: &(impl Print + AllocGlobal),
+        scripts: &[Script],
+    ) -> anyhow::Result<()> {
         for script in scripts {
-            self.line(rt, script.id, play(rt.alloc(), script)?)?;
+            let check = play(rt.alloc(), script)?;
+            self.line(rt, script.id, check.differences())?;
         }
         Ok(())
     }
 
-    pub fn summary(&self, rt: &HostRuntime) -> anyhow::Result<()> {
+    pub fn summary(&self, rt: &impl Print) -> anyhow::Result<()> {
         println!(rt;
             "{} scenarios, {} as expected",
             self.scenarios, self.as_expected

@@ -1,12 +1,11 @@
 //! What counts as decided, and when.
-use crate::check::Report;
 use crate::script::Script;
 use crate::script::Step::{
     Ack, Alone, Applied, Campaign, Cut, Did, Forget, Heal, Is, Leads, Log, LoseAppends, Progress,
     Propose, Stand, Tick, Vote, Waits,
 };
 
-static SCRIPTS: [Script; 23] = [
+pub static SCRIPTS: [Script; 23] = [
     Script {
         id: "TestSingleNodeCommit",
         size: 1,
@@ -374,7 +373,3 @@ static SCRIPTS: [Script; 23] = [
         ],
     },
 ];
-
-pub fn play(rt: &HostRuntime, report: &mut Report) -> anyhow::Result<()> {
-    report.play(rt, &SCRIPTS)
-}

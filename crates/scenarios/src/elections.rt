@@ -1,12 +1,11 @@
 //! Who stands, who leads and who follows.
-use crate::check::Report;
 use crate::script::Script;
 use crate::script::Step::{
     Alone, Append, Ask, Campaign, Cut, Did, Follows, Forget, Heal, Is, Isolate, Log, Propose,
     Stand, Tick, Vote, Waits,
 };
 
-static SCRIPTS: [Script; 25] = [
+pub static SCRIPTS: [Script; 25] = [
     Script {
         id: "T001",
         size: 3,
@@ -301,7 +300,3 @@ static SCRIPTS: [Script; 25] = [
         ],
     },
 ];
-
-pub fn play(rt: &HostRuntime, report: &mut Report) -> anyhow::Result<()> {
-    report.play(rt, &SCRIPTS)
-}

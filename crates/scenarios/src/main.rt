@@ -1,4 +1,4 @@
-//! Scenarios of upstream's tests, driven by `together_several::step` on machines that really run. A line for each: its id and `ok`, or what differs.
+//! Scenarios of upstream's tests, on machines of `together_several` that really run. A line for each: its id and `ok`, or what differs.
 #![tactic(auto)]
 
 mod appends;
@@ -15,18 +15,20 @@ mod view;
 mod votes;
 
 use check::Report;
-
-fn run(rt: &HostRuntime) -> anyhow::Result<()> {
-    let mut report = Report::new();
-    elections::play(rt, &mut report)?;
-    votes::play(rt, &mut report)?;
-    replication::play(rt, &mut report)?;
-    appends::play(rt, &mut report)?;
-    commits::play(rt, &mut report)?;
-    restarts::play(rt, &mut report)?;
-    report.summary(rt)
-}
+use script::Script;
 
 fn main(rt: HostRuntime) -> anyhow::Result<()> {
-    run(&rt)
+    let all: [&[Script]; 6] = [
+        &elections::SCRIPTS,
+        &votes::SCRIPTS,
+        &replication::SCRIPTS,
+        &appends::SCRIPTS,
+        &commits::SCRIPTS,
+        &restarts::SCRIPTS,
+    ];
+    let mut report = Report::default();
+    for scripts in all {
+        report.play(&rt, scripts)?;
+    }
+    report.summary(&rt)
 }

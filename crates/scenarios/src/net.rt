@@ -1,55 +1,71 @@
 //! Machines and the letters between them. They are called by upstream's numbers, from 1.
+ghost use Rattle.messages.specs.Message.{Sendable};
+
 use crate::node::{Letter, Node};
 use crate::setup::{Offer, append_letter, letter};
-use crate::view::{Standing, is_append, look_at};
-use anyhow::anyhow;
+use anyhow::{Context, bail};
 use messages::Message;
+use messages::decoder::decode;
+use raft::header::{ClusterSize, Machine, Role, load};
+use raft_log::MachineId;
 use std::alloc::Global;
-use std::mem;
+use std::collections::VecDeque;
+use together::engine::Event;
 
-// No scenario needs as many rounds of letters.
-const MAX_ROUNDS: u64 = 1000;
+// No scenario needs as many letters.
+const MAX_LETTERS: u64 = 10_000;
 // Ten ticks for each term till a machine's own comes round.
 const MAX_TICKS: u64 = 80;
 
 #[derive(Drop)]
 pub struct Net {
     heap: Global,
-    size: u64,
+    size: ClusterSize,
     nodes: Vec<Node>,
-    flying: Vec<Letter>,
+    flying: VecDeque<Letter>,
     // Between which machines no letter comes through.
-    cuts: Vec<(u64, u64)>,
+    cuts: Vec<(MachineId, MachineId)>,
     pub appends_drop: bool,
+}
+
+fn is_append(letter: &Letter) -> bool {
+    matches!(decode(&letter.bytes), Some(Message::Append { .. }))
+}
+
+// Is its term its own?
+fn stands(machine: Machine<Role>) -> bool {
+    !matches!(machine.role, Role::Follower(_, _))
 }
 
 impl Net {
     pub fn new(heap: Global, size: u64) -> anyhow::Result<Net> {
+        let size = ClusterSize(size);
         let mut nodes = Vec::new(heap);
-        for id in 0..size {
-            nodes.push(Node::started(heap, id, size)?)?;
+        for id in 0..size.0 {
+            nodes.push(Node::started(heap, MachineId(id), size)?)?;
         }
         Ok(Net {
             heap,
             size,
             nodes,
-            flying: Vec::new(heap),
+            flying: VecDeque::new(heap),
             cuts: Vec::new(heap),
             appends_drop: false,
         })
     }
 
     /// The number that a machine has here.
-    pub fn id(&self, node: u64) -> u64 {
-        if node == self.size { 0 } else { node }
+    pub fn id(&self, name: u64) -> MachineId {
+        MachineId(if name == self.size.0 { 0 } else { name })
     }
 
-    pub fn node(&mut self, node: u64) -> anyhow::Result<&mut Node> {
-        let id = self.id(node);
-        let Some(found) = self.nodes.get_mut(id as usize) else {
-            return Err(anyhow!("no such machine"));
-        };
-        Ok(found)
+    fn node_of(&mut self, id: MachineId) -> anyhow::Result<&mut Node> {
+        self.nodes.get_mut(id.0 as usize).context("no such machine")
+    }
+
+    pub fn node(&mut self, name: u64) -> anyhow::Result<&mut Node> {
+        let id = self.id(name);
+        self.node_of(id)
     }
 
     /// No letters between two machines.
@@ -60,18 +76,17 @@ impl Net {
     }
 
     /// No letters to or from a machine.
-    pub fn isolate(&mut self, node: u64) -> anyhow::Result<()> {
-        for other in 0..self.size {
-            let pair = (self.id(node), other);
-            self.cuts.push(pair)?;
-        }
+    pub fn isolate(&mut self, name: u64) -> anyhow::Result<()> {
+        let id = self.id(name);
+        let pairs = (0..self.size.0).map(|other| (id, MachineId(other)));
+        self.cuts.extend(pairs)?;
         Ok(())
     }
 
     /// No letters at all.
     pub fn isolate_all(&mut self) -> anyhow::Result<()> {
-        for node in 0..self.size {
-            self.isolate(node)?;
+        for name in 1..=self.size.0 {
+            self.isolate(name)?;
         }
         Ok(())
     }
@@ -83,80 +98,73 @@ impl Net {
     }
 
     fn comes_through(&self, letter: &Letter) -> bool {
-        for pair in self.cuts.iter() {
-            let (a, b) = *pair;
-            if a == letter.from && b == letter.to || a == letter.to && b == letter.from {
-                return false;
-            }
-        }
-        !(self.appends_drop && is_append(&letter.bytes))
+        let Letter { from, to, .. } = *letter;
+        let is_cut = self.cuts.contains(&(from, to)) || self.cuts.contains(&(to, from));
+        !is_cut && !(self.appends_drop && is_append(letter))
     }
 
-    // The letters that a machine sent fly.
-    fn take_up(&mut self, node: u64) -> anyhow::Result<()> {
-        let sent = self.node(node)?.take_sent();
+    // An event at a machine; the letters that it sends fly.
+    fn react(&mut self, id: MachineId, event: Event<'_>) -> anyhow::Result<()> {
+        let node = self.node_of(id)?;
+        node.react(event)?;
+        let sent = node.take_sent();
         self.flying.extend(sent)?;
         Ok(())
     }
 
-    // A tick; the letters that follow from it fly.
-    fn tick(&mut self, node: u64) -> anyhow::Result<()> {
-        self.node(node)?.tick()?;
-        self.take_up(node)
+    fn tick(&mut self, name: u64) -> anyhow::Result<()> {
+        self.react(self.id(name), Event::Tick)
     }
 
+    // A letter comes, if it comes through; the letters that follow from it fly.
     fn hand_over(&mut self, letter: &Letter) -> anyhow::Result<()> {
-        if self.comes_through(letter) {
-            self.node(letter.to)?.receive(letter.from, &letter.bytes)?;
-            self.take_up(letter.to)?;
+        if !self.comes_through(letter) {
+            return Ok(());
         }
-        Ok(())
+        self.react(
+            letter.to,
+            Event::Letter {
+                from: letter.from,
+                bytes: &letter.bytes,
+            },
+        )
     }
 
     /// Letters come till none is left.
     pub fn deliver(&mut self) -> anyhow::Result<()> {
-        for _ in 0..MAX_ROUNDS {
-            if self.flying.is_empty() {
+        for _ in 0..MAX_LETTERS {
+            let Some(letter) = self.flying.pop_front() else {
                 return Ok(());
-            }
-            let heap = self.heap;
-            let round = mem::replace(&mut self.flying, Vec::new(heap));
-            for letter in round.iter() {
-                self.hand_over(letter)?;
-            }
+            };
+            self.hand_over(&letter)?;
         }
-        Err(anyhow!("letters without end"))
+        bail!("letters without end")
     }
 
     /// Ticks, and after each all letters that follow from it.
-    pub fn ticks(&mut self, node: u64, times: u64) -> anyhow::Result<()> {
+    pub fn ticks(&mut self, name: u64, times: u64) -> anyhow::Result<()> {
         for _ in 0..times {
-            self.tick(node)?;
+            self.tick(name)?;
             self.deliver()?;
         }
         Ok(())
     }
 
-    pub fn propose(&mut self, node: u64, value: &[u8]) -> anyhow::Result<()> {
-        self.node(node)?.propose(value)?;
-        self.take_up(node)?;
+    pub fn propose(&mut self, name: u64, value: &[u8]) -> anyhow::Result<()> {
+        self.react(self.id(name), Event::Propose(value))?;
         self.deliver()
-    }
-
-    /// Power goes and comes.
-    pub fn restart(&mut self, node: u64) -> anyhow::Result<()> {
-        self.node(node)?.restart()
     }
 
     /// Bytes come from one machine to another, whatever is cut, and then all letters that follow.
     pub fn post_bytes(&mut self, from: u64, to: u64, bytes: &[u8]) -> anyhow::Result<()> {
         let from = self.id(from);
-        self.node(to)?.receive(from, bytes)?;
-        self.take_up(to)?;
+        self.react(self.id(to), Event::Letter { from, bytes })?;
         self.deliver()
     }
 
-    pub fn post(&mut self, from: u64, to: u64, message: Message) -> anyhow::Result<()> {
+    pub fn post(&mut self, from: u64, to: u64, message: Message<usize>) -> anyhow::Result<()>
+        requires { Sendable message }
+    {
         let bytes = letter(self.heap, message)?;
         self.post_bytes(from, to, &bytes)
     }
@@ -166,44 +174,27 @@ impl Net {
         self.post_bytes(from, to, &bytes)
     }
 
-    pub fn set_log(&mut self, node: u64, terms: &[u64], commit: u64) -> anyhow::Result<()> {
-        self.node(node)?.set_log(terms, commit);
-        Ok(())
-    }
-
-    pub fn set_progress(
-        &mut self,
-        node: u64,
-        other: u64,
-        matched: u64,
-        next: u64,
-    ) -> anyhow::Result<()> {
-        let other = self.id(other);
-        self.node(node)?.set_progress(other, matched, next);
-        Ok(())
-    }
-
-    fn standing(&mut self, node: u64) -> anyhow::Result<Standing> {
-        look_at(&self.node(node)?.memory)
+    fn machine(&mut self, name: u64) -> anyhow::Result<Machine<Role>> {
+        Ok(load(&self.node(name)?.memory))
     }
 
     /// Ticks a machine till it stands in a term of its own; what it says on the way is lost, and so are letters that fly. One that leads goes on leading.
-    pub fn stand(&mut self, node: u64) -> anyhow::Result<()> {
-        let before = self.standing(node)?;
+    pub fn stand(&mut self, name: u64) -> anyhow::Result<()> {
+        let before = self.machine(name)?;
         for _ in 0..MAX_TICKS {
             self.flying.clear();
-            self.tick(node)?;
-            let now = self.standing(node)?;
-            if before.leads || now.owns && now.term > before.term {
+            self.tick(name)?;
+            let now = self.machine(name)?;
+            if before.role == Role::Leader || stands(now) && now.term > before.term {
                 return Ok(());
             }
         }
-        Err(anyhow!("it does not stand"))
+        bail!("it does not stand")
     }
 
     /// The same, and then all letters come.
-    pub fn campaign(&mut self, node: u64) -> anyhow::Result<()> {
-        self.stand(node)?;
+    pub fn campaign(&mut self, name: u64) -> anyhow::Result<()> {
+        self.stand(name)?;
         self.deliver()
     }
 }

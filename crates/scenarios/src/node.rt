@@ -1,72 +1,83 @@
 //! One machine with its memory and what of it is safe; what it does is noted as text, and the letters that it sends are kept.
-use crate::view::{letter_text, name};
-use anyhow::anyhow;
+use crate::view::{LetterText, name};
+use anyhow::{Context, bail};
+use raft::header::ClusterSize;
+use raft_log::MachineId;
+use raft_log::layout::{MEMORY_WORDS, Memory};
 use std::alloc::{AllocError, Global};
+use std::fmt::Display;
 use std::mem;
 use together::Told;
-use together_several::{MEMORY_WORDS, step};
+use together::engine::{Event, MAX_LETTER_BYTES, react};
+use together_several::several::Several;
 
-const LETTER_BYTES: usize = 4096;
 // Above any number of acts that an event begins.
 const MAX_ACTS: u64 = 10_000;
 
 #[derive(Drop)]
 pub struct Letter {
-    pub from: u64,
-    pub to: u64,
+    pub from: MachineId,
+    pub to: MachineId,
     pub bytes: Vec<u8>,
 }
 
 #[derive(Drop)]
 pub struct Node {
-    pub heap: Global,
-    pub id: u64,
-    pub size: u64,
-    pub memory: Vec<u64>,
-    stable: Vec<u64>,
-    out: Vec<u8>,
+    heap: Global,
+    id: MachineId,
+    size: ClusterSize,
+    pub memory: Box<Memory>,
+    stable: Box<Memory>,
+    out: Box<[u8; MAX_LETTER_BYTES]>,
     sent: Vec<Letter>,
     acts: String,
     applied: String,
 }
 
+/// A memory of zeros. It is large and goes over the stack to the heap: a `?` would move it there once more.
+pub fn empty_memory(heap: Global) -> Result<Box<Memory>, AllocError> {
+    match Box::new(heap, [0; MEMORY_WORDS]) {
+        Ok(memory) => Ok(memory),
+        Err(_) => Err(AllocError),
+    }
+}
+
 impl Node {
-    pub fn new(heap: Global, id: u64, size: u64) -> Result<Node, AllocError> {
-        Ok(Node {
+    /// A machine that power has come to.
+    pub fn started(heap: Global, id: MachineId, size: ClusterSize) -> anyhow::Result<Node> {
+        let mut node = Node {
             heap,
             id,
             size,
-            memory: vec![in heap; 0; MEMORY_WORDS]?,
-            stable: vec![in heap; 0; MEMORY_WORDS]?,
-            out: vec![in heap; 0; LETTER_BYTES]?,
+            memory: empty_memory(heap)?,
+            stable: empty_memory(heap)?,
+            out: Box::new(heap, [0; MAX_LETTER_BYTES])?,
             sent: Vec::new(heap),
             acts: String::new(heap),
             applied: String::new(heap),
-        })
-    }
-
-    /// A machine that power has come to.
-    pub fn started(heap: Global, id: u64, size: u64) -> anyhow::Result<Node> {
-        let mut node = Node::new(heap, id, size)?;
+        };
         node.power()?;
         Ok(node)
     }
 
     /// Memory as it is counts as safe.
     pub fn keep(&mut self) {
-        copy(&mut self.stable, &self.memory);
+        self.stable.copy_from_slice(&*self.memory);
     }
 
     /// Power goes and comes: memory is what was last made safe.
     pub fn restart(&mut self) -> anyhow::Result<()> {
-        copy(&mut self.memory, &self.stable);
+        self.memory.copy_from_slice(&*self.stable);
         self.power()
     }
 
-    /// What was done since this was last asked, as text.
-    pub fn take_acts(&mut self) -> String {
-        let heap = self.heap;
-        mem::replace(&mut self.acts, String::new(heap))
+    /// What was done since this was last forgotten, as text.
+    pub fn acts(&self) -> &str {
+        self.acts.as_str()
+    }
+
+    pub fn forget_acts(&mut self) {
+        self.acts.clear();
     }
 
     /// All values that it applied, in turn, each after a blank.
@@ -76,99 +87,68 @@ impl Node {
 
     /// The letters since this was last asked.
     pub fn take_sent(&mut self) -> Vec<Letter> {
-        let heap = self.heap;
-        mem::replace(&mut self.sent, Vec::new(heap))
+        mem::replace(&mut self.sent, Vec::new(self.heap))
     }
 
     fn power(&mut self) -> anyhow::Result<()> {
-        let told = step(&mut self.memory, 0, self.id, self.size, b"", &mut self.out);
-        self.go_on(told)
+        self.react(Event::Power {
+            id: self.id,
+            size: self.size,
+        })
     }
 
-    pub fn propose(&mut self, value: &[u8]) -> anyhow::Result<()> {
-        let told = step(&mut self.memory, 1, 0, 0, value, &mut self.out);
-        self.go_on(told)
-    }
-
-    /// A letter comes from a machine.
-    pub fn receive(&mut self, from: u64, bytes: &[u8]) -> anyhow::Result<()> {
-        let told = step(&mut self.memory, 3, from, 0, bytes, &mut self.out);
-        self.go_on(told)
-    }
-
-    pub fn tick(&mut self) -> anyhow::Result<()> {
-        let told = step(&mut self.memory, 4, 0, 0, b"", &mut self.out);
-        self.go_on(told)
-    }
-
-    // All acts that an event begins, the first of which was told.
-    fn go_on(&mut self, first: Told) -> anyhow::Result<()> {
-        let mut told = first;
+    /// An event, with all acts that it begins.
+    pub fn react(&mut self, event: Event<'_>) -> anyhow::Result<()> {
+        let mut told = self.told(event);
         for _ in 0..MAX_ACTS {
-            if !self.does(told)? {
-                return Ok(());
+            match told {
+                Told::Settle => self.settle()?,
+                Told::Applies(number, long) => self.apply(number, long)?,
+                Told::Flies(to, long) => self.send(MachineId(to), long)?,
+                Told::No(number) => return self.note(format_args!("refused {number}")),
+                Told::Shows(_) | Told::Done => return Ok(()),
             }
-            told = step(&mut self.memory, 5, 0, 0, b"", &mut self.out);
+            told = self.told(Event::GoOn);
         }
-        Err(anyhow!("an event that does not end"))
+        bail!("an event that does not end")
     }
 
-    // Does an act, and says whether more may follow.
-    fn does(&mut self, told: Told) -> anyhow::Result<bool> {
-        match told {
-            Told::Settle => {
-                self.keep();
-                self.note("settle")?;
-            }
-            Told::Applies(number, long) => self.apply(number, long)?,
-            Told::Flies(to, long) => self.send(to, long)?,
-            Told::Shows(_) => return Ok(false),
-            Told::Done => return Ok(false),
-            Told::No(number) => {
-                let text = format!(in self.heap; "refused {number}")?;
-                self.note(text.as_str())?;
-                return Ok(false);
-            }
-        }
-        Ok(true)
+    fn told(&mut self, event: Event<'_>) -> Told {
+        react::<Several>(&mut self.memory, event, &mut *self.out)
     }
 
-    fn note(&mut self, act: &str) -> anyhow::Result<()> {
+    fn note<A: Display + Drop>(&mut self, act: A) -> anyhow::Result<()> {
         if !self.acts.is_empty() {
             self.acts.push_str("; ")?;
         }
-        self.acts.push_str(act)?;
+        write!(self.acts, "{act}")?;
         Ok(())
+    }
+
+    // What an act carries.
+    fn carried(&self, long: u64) -> anyhow::Result<&[u8]> {
+        self.out
+            .get(..long as usize)
+            .context("an act that carries too much")
+    }
+
+    fn settle(&mut self) -> anyhow::Result<()> {
+        self.keep();
+        self.note("settle")
     }
 
     fn apply(&mut self, number: u64, long: u64) -> anyhow::Result<()> {
-        let value = String::from_utf8_lossy(self.heap, front(&self.out, long))?;
-        self.applied.push_str(" ")?;
-        self.applied.push_str(value.as_str())?;
-        let text = format!(in self.heap; "apply {number} {value}")?;
-        self.note(text.as_str())
+        let value = String::from_utf8_lossy(self.heap, self.carried(long)?)?;
+        write!(self.applied, " {value}")?;
+        self.note(format_args!("apply {number} {value}"))
     }
 
-    fn send(&mut self, to: u64, long: u64) -> anyhow::Result<()> {
-        let bytes = front(&self.out, long).to_vec(self.heap)?;
-        let letter = letter_text(self.heap, &bytes)?;
-        let text = format!(in self.heap; "to {}: {letter}", name(to, self.size))?;
-        self.note(text.as_str())?;
+    fn send(&mut self, to: MachineId, long: u64) -> anyhow::Result<()> {
+        let bytes = self.carried(long)?.to_vec(self.heap)?;
+        let name = name(to, self.size);
+        self.note(format_args!("to {name}: {}", LetterText(&bytes)))?;
         let from = self.id;
         self.sent.push(Letter { from, to, bytes })?;
         Ok(())
-    }
-}
-
-fn front(bytes: &[u8], long: u64) -> &[u8] {
-    if long as usize > bytes.len() {
-        return bytes;
-    }
-    &bytes[0..long as usize]
-}
-
-fn copy(to: &mut [u64], from: &[u64]) {
-    if to.len() == from.len() {
-        to.copy_from_slice(from);
     }
 }

@@ -1,12 +1,11 @@
 //! How a leader's log comes to the others, and what a tick sends.
-use crate::check::Report;
 use crate::script::Script;
 use crate::script::Step::{
     Ack, Alone, Append, Applied, Campaign, Did, Follows, Forget, Is, Isolate, Knows, Leads, Log,
     Progress, Propose, Reject, Stand, Tick, Vote, Waits,
 };
 
-static SCRIPTS: [Script; 19] = [
+pub static SCRIPTS: [Script; 19] = [
     Script {
         id: "TestProgressLeader",
         size: 2,
@@ -342,7 +341,3 @@ static SCRIPTS: [Script; 19] = [
         ],
     },
 ];
-
-pub fn play(rt: &HostRuntime, report: &mut Report) -> anyhow::Result<()> {
-    report.play(rt, &SCRIPTS)
-}

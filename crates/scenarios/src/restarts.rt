@@ -1,12 +1,11 @@
 //! Power that goes and comes, letters that are too old or do not belong, ticks.
-use crate::check::Report;
 use crate::script::Script;
 use crate::script::Step::{
     Ack, Alone, Append, Applied, Ask, Bytes, Campaign, Deny, Did, Forget, Here, Is, Leads, Log,
     Propose, Reject, Restart, Stand, Tick, Vote, Waits,
 };
 
-static SCRIPTS: [Script; 8] = [
+pub static SCRIPTS: [Script; 8] = [
     Script {
         id: "TestRawNodeStart",
         size: 1,
@@ -120,7 +119,3 @@ static SCRIPTS: [Script; 8] = [
         ],
     },
 ];
-
-pub fn play(rt: &HostRuntime, report: &mut Report) -> anyhow::Result<()> {
-    report.play(rt, &SCRIPTS)
-}

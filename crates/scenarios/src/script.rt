@@ -1,8 +1,9 @@
 //! A scenario as a list of steps: what is done to machines, and what is expected of them. Machines are called by upstream's numbers, from 1.
+ghost use Rattle.messages.specs.Message.{Sendable};
+
 use crate::check::Check;
 use crate::net::Net;
 use crate::setup::Offer;
-use anyhow::anyhow;
 use messages::Message;
 use raft::header::{Role, Ticks};
 use raft_log::{Index, Term};
@@ -58,105 +59,64 @@ pub struct Script {
     pub steps: &'static [Step],
 }
 
-#[derive(Drop)]
-struct Scene {
-    net: Net,
-    check: Check,
+fn perform(net: &mut Net, check: &mut Check, step: Step) -> anyhow::Result<()> {
+    match step {
+        Step::Cut(a, b) => net.cut(a, b)?,
+        Step::Isolate(node) => net.isolate(node)?,
+        Step::Alone => net.isolate_all()?,
+        Step::LoseAppends => net.appends_drop = true,
+        Step::Heal => net.heal(),
+        Step::Log(node, terms, commit) => net.node(node)?.set_log(terms, commit),
+        Step::Waits(node, term) => net.node(node)?.set_role(term, follower(false)),
+        Step::Follows(node, term) => net.node(node)?.set_role(term, follower(true)),
+        Step::Stands(node, term) => net.node(node)?.set_role(term, Role::Candidate(Ticks(0))),
+        Step::Leads(node, term) => net.node(node)?.set_role(term, Role::Leader),
+        Step::Progress(node, other, matched, next) => {
+            let other = net.id(other);
+            net.node(node)?.set_progress(other, matched, next);
+        }
+        Step::Tick(node, times) => net.ticks(node, times)?,
+        Step::Propose(node, value) => net.propose(node, value.as_bytes())?,
+        Step::Restart(node) => net.node(node)?.restart()?,
+        Step::Stand(node) => net.stand(node)?,
+        Step::Campaign(node) => net.campaign(node)?,
+        Step::Ask(from, to, term, last) => net.post(from, to, ask(term, last))?,
+        Step::Vote(from, to, term) => net.post(from, to, vote(term, true))?,
+        Step::Deny(from, to, term) => net.post(from, to, vote(term, false))?,
+        Step::Ack(from, to, term, index) => net.post(from, to, ack(term, index))?,
+        Step::Reject(from, to, term, index) => net.post(from, to, reject(term, index))?,
+        Step::Here(from, to, term) => net.post(from, to, here(term))?,
+        Step::Append(from, to, term, (prev, prev_term), commit, entries) => net.post_append(
+            from,
+            to,
+            Offer {
+                term,
+                prev,
+                prev_term,
+                commit,
+                entries,
+            },
+        )?,
+        Step::Bytes(from, to, text) => net.post_bytes(from, to, text.as_bytes())?,
+        Step::Forget(node) => net.node(node)?.forget_acts(),
+        Step::Is(node, expected) => check.state(net.node(node)?, expected)?,
+        Step::Did(node, expected) => check.acts(net.node(node)?, expected)?,
+        Step::Applied(node, expected) => check.applied(net.node(node)?, expected)?,
+        Step::Knows(node, other, expected) => {
+            let other = net.id(other);
+            check.progress(net.node(node)?, other, expected)?;
+        }
+    }
+    Ok(())
 }
 
-impl Scene {
-    fn perform(&mut self, step: Step) -> anyhow::Result<()> {
-        match step {
-            Step::Cut(a, b) => self.net.cut(a, b),
-            Step::Isolate(node) => self.net.isolate(node),
-            Step::Alone => self.net.isolate_all(),
-            Step::LoseAppends => {
-                self.net.appends_drop = true;
-                Ok(())
-            }
-            Step::Heal => {
-                self.net.heal();
-                Ok(())
-            }
-            Step::Tick(node, times) => self.net.ticks(node, times),
-            Step::Propose(node, value) => self.net.propose(node, value.as_bytes()),
-            Step::Restart(node) => self.net.restart(node),
-            Step::Stand(node) => self.net.stand(node),
-            Step::Campaign(node) => self.net.campaign(node),
-            _ => self.set(step),
-        }
-    }
-
-    fn set_role(&mut self, node: u64, term: u64, role: Role) -> anyhow::Result<()> {
-        self.net.node(node)?.set_role(term, role);
-        Ok(())
-    }
-
-    fn set(&mut self, step: Step) -> anyhow::Result<()> {
-        match step {
-            Step::Log(node, terms, commit) => self.net.set_log(node, terms, commit),
-            Step::Waits(node, term) => self.set_role(node, term, Role::Follower(Ticks(0), false)),
-            Step::Follows(node, term) => self.set_role(node, term, Role::Follower(Ticks(0), true)),
-            Step::Stands(node, term) => self.set_role(node, term, Role::Candidate(Ticks(0))),
-            Step::Leads(node, term) => self.set_role(node, term, Role::Leader),
-            Step::Progress(node, other, matched, next) => self
-                .net
-                .set_progress(node, other, matched, next),
-            _ => self.post(step),
-        }
-    }
-
-    fn post(&mut self, step: Step) -> anyhow::Result<()> {
-        match step {
-            Step::Append(from, to, term, before, commit, entries) => {
-                let (prev, prev_term) = before;
-                let offer = Offer {
-                    term,
-                    prev,
-                    prev_term,
-                    commit,
-                    entries,
-                };
-                self.net.post_append(from, to, offer)
-            }
-            Step::Bytes(from, to, text) => self.net.post_bytes(from, to, text.as_bytes()),
-            _ => self.post_plain(step),
-        }
-    }
-
-    fn post_plain(&mut self, step: Step) -> anyhow::Result<()> {
-        match step {
-            Step::Ask(from, to, term, last) => self.net.post(from, to, ask(term, last)),
-            Step::Vote(from, to, term) => self.net.post(from, to, vote(term, true)),
-            Step::Deny(from, to, term) => self.net.post(from, to, vote(term, false)),
-            Step::Ack(from, to, term, index) => self.net.post(from, to, ack(term, index)),
-            Step::Reject(from, to, term, index) => self.net.post(from, to, reject(term, index)),
-            Step::Here(from, to, term) => self
-                .net
-                .post(from, to, Message::TermNotice { term: Term(term) }),
-            _ => self.expect(step),
-        }
-    }
-
-    fn expect(&mut self, step: Step) -> anyhow::Result<()> {
-        match step {
-            Step::Forget(node) => {
-                let _ = self.net.node(node)?.take_acts();
-                Ok(())
-            }
-            Step::Is(node, expected) => self.check.state(self.net.node(node)?, expected),
-            Step::Did(node, expected) => self.check.acts(self.net.node(node)?, expected),
-            Step::Applied(node, expected) => self.check.applied(self.net.node(node)?, expected),
-            Step::Knows(node, other, expected) => {
-                let other = self.net.id(other);
-                self.check.progress(self.net.node(node)?, other, expected)
-            }
-            _ => Err(anyhow!("a step that nothing does")),
-        }
-    }
+fn follower(heard: bool) -> Role {
+    Role::Follower(Ticks(0), heard)
 }
 
-fn ask(term: u64, last: (u64, u64)) -> Message {
+fn ask(term: u64, last: (u64, u64)) -> Message<usize>
+    ensures { Sendable result }
+{
     let (last_index, last_term) = last;
     Message::RequestVote {
         term: Term(term),
@@ -165,14 +125,18 @@ fn ask(term: u64, last: (u64, u64)) -> Message {
     }
 }
 
-fn vote(term: u64, granted: bool) -> Message {
+fn vote(term: u64, granted: bool) -> Message<usize>
+    ensures { Sendable result }
+{
     Message::RequestVoteResponse {
         term: Term(term),
         granted,
     }
 }
 
-fn ack(term: u64, index: u64) -> Message {
+fn ack(term: u64, index: u64) -> Message<usize>
+    ensures { Sendable result }
+{
     Message::AppendResponse {
         term: Term(term),
         index: Index(index),
@@ -180,7 +144,9 @@ fn ack(term: u64, index: u64) -> Message {
 }
 
 // The hint is the index itself, as in upstream's rows.
-fn reject(term: u64, index: u64) -> Message {
+fn reject(term: u64, index: u64) -> Message<usize>
+    ensures { Sendable result }
+{
     Message::AppendReject {
         term: Term(term),
         prev_index: Index(index),
@@ -188,15 +154,18 @@ fn reject(term: u64, index: u64) -> Message {
     }
 }
 
+fn here(term: u64) -> Message<usize>
+    ensures { Sendable result }
+{
+    Message::TermNotice { term: Term(term) }
+}
+
 /// Goes through the steps of a scenario.
 pub fn play(heap: Global, script: &Script) -> anyhow::Result<Check> {
-    let mut scene = Scene {
-        net: Net::new(heap, script.size)?,
-        check: Check::new(heap),
-    };
+    let mut net = Net::new(heap, script.size)?;
+    let mut check = Check::new(heap);
     for step in script.steps {
-        scene.perform(*step)?;
+        perform(&mut net, &mut check, *step)?;
     }
-    let Scene { net: _, check } = scene;
     Ok(check)
 }

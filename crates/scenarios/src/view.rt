@@ -1,103 +1,78 @@
 //! What a memory and a letter say, as text.
-ghost use Rattle.std.specs.Prelude.{◌≡◌, length};
-ghost use Rattle.raft_log.specs.Layout.{memory_words};
-
-use anyhow::anyhow;
 use messages::Message;
 use messages::decoder::decode;
-use raft::header::{Role, load};
-use raft::rows::{MATCHED, NEXT};
-use raft_log::Index;
+use raft::header::{ClusterSize, Role, load};
+use raft::rows::{DUE, MATCHED, NEXT};
 use raft_log::entries::{committed, last_index, number, term};
-use raft_log::layout::MEMORY_WORDS;
+use raft_log::layout::{MAX_VALUES, Memory};
 use raft_log::values::read_value;
-use std::alloc::{AllocError, Global};
+use raft_log::{Index, MachineId};
+use std::fmt;
 
 const MAX_BYTES: usize = 256;
 
 /// Upstream's number of a machine: they count from 1, and the last is the one that is 0 here.
-pub fn name(id: u64, size: u64) -> u64 {
-    if id == 0 { size } else { id }
+pub fn name(id: MachineId, size: ClusterSize) -> u64 {
+    if id.0 == 0 { size.0 } else { id.0 }
 }
 
-fn append_text(heap: Global, numbers: [u64; 4], count: usize) -> Result<String, AllocError> {
-    let [term, prev, prev_term, commit] = numbers;
-    format!(in heap; "append t{term} {prev}:{prev_term} c{commit} +{count}")
-}
-
-fn message_text(heap: Global, message: Message) -> Result<String, AllocError> {
-    match message {
-        Message::Append {
-            term,
-            prev_index,
-            prev_term,
-            commit,
-            count,
-        } => append_text(heap, [term.0, prev_index.0, prev_term.0, commit.0], count),
-        Message::AppendResponse { term, index } => format!(in heap;
-            "accept t{} {}",
-            term.0, index.0
-        ),
-        Message::AppendReject {
-            term,
-            prev_index,
-            hint,
-        } => format!(in heap; "reject t{} {} hint {}", term.0, prev_index.0, hint.0),
-        Message::RequestVote {
-            term,
-            last_index,
-            last_term,
-        } => format!(in heap; "ask t{} {}:{}", term.0, last_index.0, last_term.0),
-        Message::RequestVoteResponse { term, granted } => {
-            let word = if granted { "vote" } else { "deny" };
-            format!(in heap; "{word} t{}", term.0)
-        }
-        Message::TermNotice { term } => format!(in heap; "here t{}", term.0),
-    }
-}
-
-/// A letter: its kind, term and numbers, and how many entries it carries.
-pub fn letter_text(heap: Global, bytes: &[u8]) -> Result<String, AllocError> {
-    match decode(bytes) {
-        Some(message) => message_text(heap, message),
-        None => String::from_str(heap, "no letter"),
-    }
-}
-
-pub fn is_append(bytes: &[u8]) -> bool {
-    matches!(decode(bytes), Some(Message::Append { .. }))
-}
-
-/// Where a machine stands in elections.
+/// The bytes of a letter: its kind, term and numbers, and how many entries it carries.
 #[derive(Clone, Copy)]
-pub struct Standing {
-    pub term: u64,
-    pub leads: bool,
-    // Is its term its own?
-    pub owns: bool,
-}
+pub struct LetterText<'a>(pub &'a [u8]);
 
-pub fn look_at(memory: &[u64]) -> anyhow::Result<Standing> {
-    if memory.len() != MEMORY_WORDS {
-        return Err(anyhow!("a memory of another length"));
+impl fmt::Display for LetterText<'_> {
+    fn fmt<W: fmt::Write>(&self, f: &mut fmt::Formatter<W>) -> fmt::Result {
+        let Some(message) = decode(self.0) else {
+            return f.write_str("no letter");
+        };
+        match message {
+            Message::Append {
+                term,
+                prev_index,
+                prev_term,
+                commit,
+                entries,
+            } => write!(
+                f,
+                "append t{} {}:{} c{} +{}",
+                term.0,
+                prev_index.0,
+                prev_term.0,
+                commit.0,
+                entries.len()
+            ),
+            Message::AppendResponse { term, index } => write!(f, "accept t{} {}", term.0, index.0),
+            Message::AppendReject {
+                term,
+                prev_index,
+                hint,
+            } => write!(f, "reject t{} {} hint {}", term.0, prev_index.0, hint.0),
+            Message::RequestVote {
+                term,
+                last_index,
+                last_term,
+            } => write!(f, "ask t{} {}:{}", term.0, last_index.0, last_term.0),
+            Message::RequestVoteResponse { term, granted } => {
+                let word = if granted { "vote" } else { "deny" };
+                write!(f, "{word} t{}", term.0)
+            }
+            Message::TermNotice { term } => write!(f, "here t{}", term.0),
+        }
     }
-    let machine = load(memory);
-    Ok(Standing {
-        term: machine.term.0,
-        leads: matches!(machine.role, Role::Leader),
-        owns: !matches!(machine.role, Role::Follower(_, _)),
-    })
 }
 
 /// How far a machine is, as its leader knows.
-pub fn progress_text(heap: Global, memory: &[u64], other: u64) -> Result<String, AllocError> {
-    let mut matched = 0;
-    let mut next = 0;
-    if other < 7 {
-        matched = memory.get(MATCHED + other as usize).copied().unwrap_or(0);
-        next = memory.get(NEXT + other as usize).copied().unwrap_or(0);
+#[derive(Clone, Copy)]
+pub struct Progress<'a>(pub &'a Memory, pub MachineId);
+
+impl fmt::Display for Progress<'_> {
+    fn fmt<W: fmt::Write>(&self, f: &mut fmt::Formatter<W>) -> fmt::Result {
+        let Progress(memory, other) = *self;
+        let place = other.0 as usize;
+        let matched = memory[MATCHED..NEXT].get(place).copied().unwrap_or(0);
+        let next = memory[NEXT..DUE].get(place).copied().unwrap_or(0);
+        write!(f, "match {matched} next {next}")
     }
-    format!(in heap; "match {matched} next {next}")
 }
 
 // One that waits has not heard from the leader of its term; one that follows has.
@@ -110,50 +85,60 @@ fn role_text(role: Role) -> &'static str {
     }
 }
 
-// The value of an entry, or `-` for an empty one.
-fn content_text(heap: Global, memory: &[u64], index: u64) -> Result<String, AllocError>
-    requires { length memory.now ≡ memory_words }
-{
-    let before = number(memory, Index(index.saturating_sub(1))).0;
-    if number(memory, Index(index)).0 == before || before >= 4096 {
-        return String::from_str(heap, "-");
+// The value of an entry, put into `room`; an empty one has none.
+fn value<'a>(memory: &Memory, index: Index, room: &'a mut [u8; MAX_BYTES]) -> Option<&'a [u8]> {
+    let before = number(memory, Index(index.0.saturating_sub(1)));
+    if number(memory, index) == before || before.0 >= MAX_VALUES {
+        return None;
     }
-    let mut room = [0; MAX_BYTES];
-    let value: &mut [u8] = &mut room;
-    let long = read_value(memory, before, value);
-    if long > value.len() {
-        return String::from_str(heap, "?");
-    }
-    String::from_utf8_lossy(heap, &value[0..long])
+    let long = read_value(memory, before.0, &mut *room);
+    room.get(..long)
 }
 
-// What each entry holds, and its term.
-fn log_text(heap: Global, memory: &[u64]) -> Result<String, AllocError>
-    requires { length memory.now ≡ memory_words }
-{
-    let mut text = String::new(heap);
-    for i in 0..last_index(memory).0 {
-        let content = content_text(heap, memory, i + 1)?;
-        let entry = format!(in heap; "{content}:{}", term(memory, Index(i + 1)).0)?;
-        if i > 0 {
-            text.push_str(" ")?;
-        }
-        text.push_str(entry.as_str())?;
+// An entry: its value, or `-` for an empty one, and its term.
+#[derive(Clone, Copy)]
+struct EntryText<'a>(&'a Memory, Index);
+
+impl fmt::Display for EntryText<'_> {
+    fn fmt<W: fmt::Write>(&self, f: &mut fmt::Formatter<W>) -> fmt::Result {
+        let EntryText(memory, index) = *self;
+        let mut room = [0; MAX_BYTES];
+        let bytes = value(memory, index, &mut room).unwrap_or(b"-");
+        let text = str::from_utf8(bytes).unwrap_or("?");
+        write!(f, "{text}:{}", term(memory, index).0)
     }
-    Ok(text)
+}
+
+// The entries of a log, with blanks between them.
+#[derive(Clone, Copy)]
+struct LogText<'a>(&'a Memory);
+
+impl fmt::Display for LogText<'_> {
+    fn fmt<W: fmt::Write>(&self, f: &mut fmt::Formatter<W>) -> fmt::Result {
+        for i in 1..=last_index(self.0).0 {
+            if i > 1 {
+                f.write_str(" ")?;
+            }
+            write!(f, "{}", EntryText(self.0, Index(i)))?;
+        }
+        Ok(())
+    }
 }
 
 /// Role, term, commit and log.
-pub fn state_text(heap: Global, memory: &[u64]) -> anyhow::Result<String> {
-    if memory.len() != MEMORY_WORDS {
-        return Err(anyhow!("a memory of another length"));
+#[derive(Clone, Copy)]
+pub struct State<'a>(pub &'a Memory);
+
+impl fmt::Display for State<'_> {
+    fn fmt<W: fmt::Write>(&self, f: &mut fmt::Formatter<W>) -> fmt::Result {
+        let machine = load(self.0);
+        write!(
+            f,
+            "{} t{} c{} [{}]",
+            role_text(machine.role),
+            machine.term.0,
+            committed(self.0).0,
+            LogText(self.0)
+        )
     }
-    let machine = load(memory);
-    let log = log_text(heap, memory)?;
-    Ok(format!(in heap;
-        "{} t{} c{} [{log}]",
-        role_text(machine.role),
-        machine.term.0,
-        committed(memory).0
-    )?)
 }

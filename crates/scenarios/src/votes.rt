@@ -1,11 +1,10 @@
 //! Asked for a vote, or getting votes.
-use crate::check::Report;
 use crate::script::Script;
 use crate::script::Step::{
     Alone, Append, Ask, Deny, Did, Forget, Is, Leads, Log, Stand, Stands, Tick, Vote, Waits,
 };
 
-static SCRIPTS: [Script; 44] = [
+pub static SCRIPTS: [Script; 44] = [
     Script {
         id: "T013",
         size: 3,
@@ -476,7 +475,3 @@ static SCRIPTS: [Script; 44] = [
         ],
     },
 ];
-
-pub fn play(rt: &HostRuntime, report: &mut Report) -> anyhow::Result<()> {
-    report.play(rt, &SCRIPTS)
-}
