@@ -4,7 +4,7 @@ use raft::header::ClusterSize;
 use raft_log::MachineId;
 use raft_log::layout::{MEMORY_WORDS, Memory};
 use std::alloc::{AllocError, Global};
-use std::collections::VecDeque;
+use std::mem;
 use together::Told;
 use together::engine::{Event, MAX_LETTER_BYTES, react};
 use together_several::several::Several;
@@ -14,15 +14,52 @@ const VALUE: [u8; 16] = [7; 16];
 const DECISIONS: u64 = 4000;
 // Till the owner of term 1 stands.
 const TICKS: u64 = 10;
-// Above any number of acts that an event begins, and of letters that follow from it.
+// Above any number of acts that an event begins, and of rounds of letters that follow from it.
 const MAX_ACTS: u64 = 10_000;
 
-/// A letter in flight.
+/// Letters in flight: all their bytes in a row, and who sent which of them to whom.
 #[derive(Drop)]
-struct Letter {
+struct Post {
+    bytes: Vec<u8>,
+    heads: Vec<Head>,
+}
+
+#[derive(Clone, Copy)]
+struct Head {
     from: MachineId,
     to: MachineId,
-    bytes: Vec<u8>,
+    start: usize,
+    end: usize,
+}
+
+impl Post {
+    fn new(heap: Global) -> Post {
+        Post {
+            bytes: Vec::new(heap),
+            heads: Vec::new(heap),
+        }
+    }
+
+    fn put(&mut self, from: MachineId, to: MachineId, letter: &[u8]) -> Result<(), AllocError> {
+        let start = self.bytes.len();
+        self.bytes.extend_from_slice(letter)?;
+        self.heads.push(Head {
+            from,
+            to,
+            start,
+            end: self.bytes.len(),
+        })?;
+        Ok(())
+    }
+
+    fn letter(&self, head: Head) -> &[u8] {
+        self.bytes.get(head.start..head.end).unwrap_or(b"")
+    }
+
+    fn clear(&mut self) {
+        self.bytes.clear();
+        self.heads.clear();
+    }
 }
 
 #[derive(Drop)]
@@ -54,20 +91,14 @@ impl Machine {
     }
 
     // An event, with all its acts; nothing is kept at a settle, as there is no disk.
-    fn event(
-        &mut self,
-        heap: Global,
-        post: &mut VecDeque<Letter>,
-        event: Event<'_>,
-    ) -> Result<(), AllocError> {
+    fn event(&mut self, post: &mut Post, event: Event<'_>) -> Result<(), AllocError> {
         let mut told = self.told(event);
         for _ in 0..MAX_ACTS {
             match told {
-                Told::Flies(to, long) => post.push_back(Letter {
-                    from: self.id,
-                    to: MachineId(to),
-                    bytes: Vec::from_slice(heap, self.out.get(..long as usize).unwrap_or(b""))?,
-                })?,
+                Told::Flies(to, long) => {
+                    let letter = self.out.get(..long as usize).unwrap_or(b"");
+                    post.put(self.id, MachineId(to), letter)?;
+                }
                 Told::Applies(_, _) => self.applied = self.applied.saturating_add(1),
                 Told::Settle => {}
                 Told::Shows(_) | Told::Done | Told::No(_) => return Ok(()),
@@ -80,12 +111,12 @@ impl Machine {
 
 #[derive(Drop)]
 pub struct Cluster {
-    heap: Global,
     name: &'static str,
     // How many proposals are made before letters come.
     window: u64,
     machines: Vec<Machine>,
-    post: VecDeque<Letter>,
+    flying: Post,
+    coming: Post,
     letters: u64,
 }
 
@@ -98,11 +129,11 @@ impl Cluster {
     ) -> Result<Cluster, AllocError> {
         let machines = (0..size).map(|id| Machine::new(heap, MachineId(id)));
         Ok(Cluster {
-            heap,
             name,
             window,
             machines: machines.try_collect(heap)?,
-            post: VecDeque::new(heap),
+            flying: Post::new(heap),
+            coming: Post::new(heap),
             letters: 0,
         })
     }
@@ -124,23 +155,36 @@ impl Cluster {
 
     fn event(&mut self, id: MachineId, event: Event<'_>) -> Result<(), AllocError> {
         match self.machines.get_mut(id.0 as usize) {
-            Some(machine) => machine.event(self.heap, &mut self.post, event),
+            Some(machine) => machine.event(&mut self.flying, event),
             None => Ok(()),
         }
+    }
+
+    // The letters of a round come to their machines.
+    fn hand_over(&mut self) -> Result<(), AllocError> {
+        let round = &self.coming;
+        for head in round.heads.iter() {
+            let event = Event::Letter {
+                from: head.from,
+                bytes: round.letter(*head),
+            };
+            if let Some(machine) = self.machines.get_mut(head.to.0 as usize) {
+                machine.event(&mut self.flying, event)?;
+            }
+            self.letters = self.letters.saturating_add(1);
+        }
+        Ok(())
     }
 
     // Letters come till none is left.
     fn deliver(&mut self) -> Result<(), AllocError> {
         for _ in 0..MAX_ACTS {
-            let Some(letter) = self.post.pop_front() else {
+            if self.flying.heads.is_empty() {
                 return Ok(());
-            };
-            self.letters = self.letters.saturating_add(1);
-            let event = Event::Letter {
-                from: letter.from,
-                bytes: &letter.bytes,
-            };
-            self.event(letter.to, event)?;
+            }
+            mem::swap(&mut self.flying, &mut self.coming);
+            self.flying.clear();
+            self.hand_over()?;
         }
         Ok(())
     }
@@ -154,7 +198,7 @@ impl Cluster {
                 id: machine.id,
                 size,
             };
-            machine.event(self.heap, &mut self.post, power)?;
+            machine.event(&mut self.flying, power)?;
         }
         for _ in 0..TICKS {
             self.event(self.leader(), Event::Tick)?;
