@@ -18,6 +18,7 @@ const TICKS: u64 = 10;
 const MAX_ACTS: u64 = 10_000;
 
 /// Letters in flight: all their bytes in a row, and who sent which of them to whom.
+/// A buffer for each letter is slower: 1,053 ns in place of 898 for a decision of three machines, 4,605 in place of 3,750 for one of five, 16 at a time.
 #[derive(Drop)]
 struct Post {
     bytes: Vec<u8>,

@@ -20,7 +20,7 @@ const MAX_ACTS: u64 = 100;
 const FOLLOWER: usize = 2;
 
 /// A tick, a proposal, or an acknowledgement that makes the last entry decided.
-#[derive(Clone, Copy)]
+#[derive(Clone, Copy, PartialEq, Eq)]
 pub enum Kind {
     Tick,
     Proposal,
@@ -105,7 +105,7 @@ impl Reaction {
     fn set_back(&mut self) {
         let memory = &mut self.leader.memory;
         memory[LAST_INDEX] = self.entries;
-        if let Kind::Acknowledgement = self.kind {
+        if self.kind == Kind::Acknowledgement {
             memory[COMMITTED] = self.entries.saturating_sub(1);
             memory[APPLIED] = self.entries.saturating_sub(2);
             for machine in [0, FOLLOWER] {

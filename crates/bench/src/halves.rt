@@ -47,8 +47,6 @@ impl Work for Half {
     }
 
     fn round(&mut self) -> u64 {
-        (0..self.operations)
-            .filter(|i| self.is_right(*i))
-            .count() as u64
+        (0..self.operations).filter(|i| self.is_right(*i)).count() as u64
     }
 }

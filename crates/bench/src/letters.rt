@@ -17,7 +17,7 @@ const VALUE: [u8; 256] = [7; 256];
 const OPERATIONS: u64 = 1000;
 // So many letters are decoded in turn.
 const LETTERS: u64 = 8;
-/// 34 bytes of numbers, 15 rows of 10 bytes, 15 values of 256.
+// 34 bytes of numbers, 15 rows of 10 bytes, 15 values of 256.
 const LETTER_BYTES: usize = 4024;
 // The low byte of a letter's term, behind its kind.
 const TERM_AT: usize = 1;
@@ -44,7 +44,7 @@ fn full_log(heap: Global) -> Result<Box<Memory>, AllocError> {
     Ok(memory)
 }
 
-/// The bytes of a full letter.
+// The bytes of a full letter.
 fn letter(heap: Global, term: Term) -> Result<Vec<u8>, AllocError> {
     let memory = full_log(heap)?;
     let mut out = [0; MAX_LETTER_BYTES];
@@ -177,6 +177,25 @@ impl Take {
     }
 }
 
+// What a letter asks a follower to append.
+fn append_of(letter: &[u8]) -> Option<Append<'_>> {
+    match decode(letter)? {
+        Message::Append {
+            prev_index,
+            prev_term,
+            commit,
+            entries,
+            ..
+        } => Some(Append {
+            prev: prev_index,
+            prev_term,
+            commit,
+            block: entries,
+        }),
+        _ => None,
+    }
+}
+
 // Is an append taken by an empty log?
 fn is_taken(memory: &mut Memory, append: &Append<'_>) -> bool {
     memory[LAST_INDEX] = 0;
@@ -193,21 +212,8 @@ impl Work for Take {
     }
 
     fn round(&mut self) -> u64 {
-        let Some(Message::Append {
-            prev_index,
-            prev_term,
-            commit,
-            entries,
-            ..
-        }) = decode(&self.letter)
-        else {
+        let Some(append) = append_of(&self.letter) else {
             return 0;
-        };
-        let append = Append {
-            prev: prev_index,
-            prev_term,
-            commit,
-            block: entries,
         };
         (0..OPERATIONS)
             .filter(|_| is_taken(&mut self.memory, &append))

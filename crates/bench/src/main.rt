@@ -105,7 +105,11 @@ fn time_events(rt: &HostRuntime) -> anyhow::Result<()> {
         ("proposal at 10 entries", Kind::Proposal, 10),
         ("proposal at 4,000 entries", Kind::Proposal, 4000),
         ("acknowledgement at 10 entries", Kind::Acknowledgement, 10),
-        ("acknowledgement at 4,000 entries", Kind::Acknowledgement, 4000),
+        (
+            "acknowledgement at 4,000 entries",
+            Kind::Acknowledgement,
+            4000,
+        ),
     ] {
         report(rt, &mut Reaction::new(rt.alloc(), name, kind, entries)?)?;
     }
