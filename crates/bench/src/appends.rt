@@ -2,18 +2,16 @@
 use crate::timing::Work;
 use raft_log::Term;
 use raft_log::entries::append_value;
-use raft_log::layout::{LAST_INDEX, MAX_VALUES, MEMORY_WORDS};
+use raft_log::layout::{LAST_INDEX, MAX_VALUE_BYTES, MAX_VALUES, MEMORY_WORDS, Memory};
 use raft_log::values::read_value;
 use std::alloc::{AllocError, Global};
-
-const MAX_BYTES: usize = 256;
 
 const FILL: u8 = 7;
 
 #[derive(Drop)]
 pub struct Append {
     name: &'static str,
-    memory: Vec<u64>,
+    memory: Box<Memory>,
     value: Vec<u8>,
 }
 
@@ -21,13 +19,13 @@ impl Append {
     pub fn new(heap: Global, name: &'static str, bytes: usize) -> Result<Append, AllocError> {
         Ok(Append {
             name,
-            memory: vec![in heap; 0; MEMORY_WORDS]?,
+            memory: Box::new(heap, [0; MEMORY_WORDS])?,
             value: vec![in heap; FILL; bytes]?,
         })
     }
 
     /// The log as the last round left it.
-    pub fn into_memory(self) -> Vec<u64> {
+    pub fn into_memory(self) -> Box<Memory> {
         self.memory
     }
 }
@@ -42,29 +40,22 @@ impl Work for Append {
     }
 
     fn round(&mut self) -> u64 {
-        let memory: &mut [u64] = &mut self.memory;
-        if memory.len() != MEMORY_WORDS {
-            return 0;
-        }
-        memory[LAST_INDEX] = 0;
-        let mut right = 0u64;
-        for i in 0..MAX_VALUES {
-            let put = append_value(memory, Term(i), &self.value).is_some();
-            right = right.saturating_add(u64::from(put));
-        }
-        right
+        self.memory[LAST_INDEX] = 0;
+        (0..MAX_VALUES)
+            .filter(|i| append_value(&mut self.memory, Term(*i), &self.value).is_some())
+            .count() as u64
     }
 }
 
 #[derive(Drop)]
 pub struct ReadBack {
     name: &'static str,
-    memory: Vec<u64>,
+    memory: Box<Memory>,
     bytes: usize,
 }
 
 impl ReadBack {
-    pub fn new(name: &'static str, memory: Vec<u64>, bytes: usize) -> ReadBack {
+    pub fn new(name: &'static str, memory: Box<Memory>, bytes: usize) -> ReadBack {
         ReadBack {
             name,
             memory,
@@ -83,17 +74,11 @@ impl Work for ReadBack {
     }
 
     fn round(&mut self) -> u64 {
-        let memory: &[u64] = &self.memory;
-        if memory.len() != MEMORY_WORDS {
-            return 0;
-        }
-        let mut room = [0; MAX_BYTES];
-        let value: &mut [u8] = &mut room;
-        let mut right = 0u64;
-        for slot in 0..MAX_VALUES {
-            let read = read_value(memory, slot, value) == self.bytes && value[0] == FILL;
-            right = right.saturating_add(u64::from(read));
-        }
-        right
+        let mut value = [0; MAX_VALUE_BYTES as usize];
+        (0..MAX_VALUES)
+            .filter(|slot| {
+                read_value(&self.memory, *slot, &mut value) == self.bytes && value[0] == FILL
+            })
+            .count() as u64
     }
 }

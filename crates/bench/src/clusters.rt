@@ -1,10 +1,13 @@
-//! Clusters in one process: letters as bytes from one machine's `step` to another's, nothing on disk. They elect machine 1 % size and decide values of 16 bytes.
+//! Clusters in one process: letters as bytes from one machine to another, nothing on disk. They elect machine 1 % size and decide values of 16 bytes.
 use crate::timing::Work;
-use messages::MAX_LETTER_BYTES;
+use raft::header::ClusterSize;
+use raft_log::MachineId;
+use raft_log::layout::{MEMORY_WORDS, Memory};
 use std::alloc::{AllocError, Global};
 use std::mem;
 use together::Told;
-use together_several::{MEMORY_WORDS, step};
+use together::engine::{Event, MAX_LETTER_BYTES, react};
+use together_several::several::Several;
 
 const VALUE: [u8; 16] = [7; 16];
 
@@ -15,6 +18,7 @@ const TICKS: u64 = 10;
 const MAX_ACTS: u64 = 10_000;
 
 /// Letters in flight: all their bytes in a row, and who sent which of them to whom.
+/// A buffer for each letter is slower: 1,053 ns in place of 898 for a decision of three machines, 4,605 in place of 3,750 for one of five, 16 at a time.
 #[derive(Drop)]
 struct Post {
     bytes: Vec<u8>,
@@ -23,8 +27,8 @@ struct Post {
 
 #[derive(Clone, Copy)]
 struct Head {
-    from: u64,
-    to: u64,
+    from: MachineId,
+    to: MachineId,
     start: usize,
     end: usize,
 }
@@ -37,21 +41,20 @@ impl Post {
         }
     }
 
-    fn put(&mut self, from: u64, to: u64, letter: &[u8]) -> Result<(), AllocError> {
+    fn put(&mut self, from: MachineId, to: MachineId, letter: &[u8]) -> Result<(), AllocError> {
         let start = self.bytes.len();
         self.bytes.extend_from_slice(letter)?;
-        let end = self.bytes.len();
         self.heads.push(Head {
             from,
             to,
             start,
-            end,
+            end: self.bytes.len(),
         })?;
         Ok(())
     }
 
     fn letter(&self, head: Head) -> &[u8] {
-        part(&self.bytes, head.start, head.end)
+        self.bytes.get(head.start..head.end).unwrap_or(b"")
     }
 
     fn clear(&mut self) {
@@ -60,57 +63,48 @@ impl Post {
     }
 }
 
-fn part(bytes: &[u8], start: usize, end: usize) -> &[u8] {
-    if start <= end && end <= bytes.len() {
-        &bytes[start..end]
-    } else {
-        b""
-    }
-}
-
 #[derive(Drop)]
-struct Machine {
-    id: u64,
-    memory: Vec<u64>,
-    out: Vec<u8>,
+pub struct Machine {
+    id: MachineId,
+    pub memory: Box<Memory>,
+    out: Box<[u8; MAX_LETTER_BYTES]>,
     applied: u64,
 }
 
 impl Machine {
-    fn new(heap: Global, id: u64) -> Result<Machine, AllocError> {
+    fn new(heap: Global, id: MachineId) -> Result<Machine, AllocError> {
         Ok(Machine {
             id,
-            memory: vec![in heap; 0; MEMORY_WORDS]?,
-            out: vec![in heap; 0; MAX_LETTER_BYTES]?,
+            memory: Box::new(heap, [0; MEMORY_WORDS])?,
+            out: Box::new(heap, [0; MAX_LETTER_BYTES])?,
             applied: 0,
         })
     }
 
     fn forget(&mut self) {
-        for word in self.memory.iter_mut() {
-            *word = 0;
-        }
+        self.memory.fill(0);
         self.applied = 0;
     }
 
+    /// The first act of an event.
+    pub fn told(&mut self, event: Event<'_>) -> Told {
+        react::<Several>(&mut self.memory, event, &mut *self.out)
+    }
+
     // An event, with all its acts; nothing is kept at a settle, as there is no disk.
-    fn event(
-        &mut self,
-        post: &mut Post,
-        kind: u64,
-        a: u64,
-        b: u64,
-        bytes: &[u8],
-    ) -> Result<(), AllocError> {
-        let mut told = step(&mut self.memory, kind, a, b, bytes, &mut self.out);
+    fn event(&mut self, post: &mut Post, event: Event<'_>) -> Result<(), AllocError> {
+        let mut told = self.told(event);
         for _ in 0..MAX_ACTS {
             match told {
-                Told::Flies(to, long) => post.put(self.id, to, part(&self.out, 0, long as usize))?,
+                Told::Flies(to, long) => {
+                    let letter = self.out.get(..long as usize).unwrap_or(b"");
+                    post.put(self.id, MachineId(to), letter)?;
+                }
                 Told::Applies(_, _) => self.applied = self.applied.saturating_add(1),
                 Told::Settle => {}
-                _ => return Ok(()),
+                Told::Shows(_) | Told::Done | Told::No(_) => return Ok(()),
             }
-            told = step(&mut self.memory, 5, 0, 0, b"", &mut self.out);
+            told = self.told(Event::GoOn);
         }
         Ok(())
     }
@@ -118,9 +112,7 @@ impl Machine {
 
 #[derive(Drop)]
 pub struct Cluster {
-    heap: Global,
     name: &'static str,
-    size: u64,
     // How many proposals are made before letters come.
     window: u64,
     machines: Vec<Machine>,
@@ -136,16 +128,11 @@ impl Cluster {
         size: u64,
         window: u64,
     ) -> Result<Cluster, AllocError> {
-        let mut machines = Vec::new(heap);
-        for id in 0..size {
-            machines.push(Machine::new(heap, id)?)?;
-        }
+        let machines = (0..size).map(|id| Machine::new(heap, MachineId(id)));
         Ok(Cluster {
-            heap,
             name,
-            size,
             window,
-            machines,
+            machines: machines.try_collect(heap)?,
             flying: Post::new(heap),
             coming: Post::new(heap),
             letters: 0,
@@ -157,40 +144,35 @@ impl Cluster {
         self.letters
     }
 
-    /// The memory of the machine that leads.
-    pub fn into_memory(self) -> Option<Vec<u64>> {
+    /// The machine that leads.
+    pub fn into_leader(self) -> Option<Machine> {
         let leader = self.leader();
-        let mut machines = self.machines;
-        if leader as usize >= machines.len() {
-            return None;
+        self.machines.into_iter().nth(leader.0 as usize)
+    }
+
+    fn leader(&self) -> MachineId {
+        MachineId(u64::from(self.machines.len() > 1))
+    }
+
+    fn event(&mut self, id: MachineId, event: Event<'_>) -> Result<(), AllocError> {
+        match self.machines.get_mut(id.0 as usize) {
+            Some(machine) => machine.event(&mut self.flying, event),
+            None => Ok(()),
         }
-        let machine = machines.swap_remove(leader as usize);
-        Some(machine.memory)
-    }
-
-    fn leader(&self) -> u64 {
-        if self.size > 1 { 1 } else { 0 }
-    }
-
-    fn event(
-        &mut self,
-        id: u64,
-        kind: u64,
-        a: u64,
-        b: u64,
-        bytes: &[u8],
-    ) -> Result<(), AllocError> {
-        let Some(machine) = self.machines.get_mut(id as usize) else {
-            return Ok(());
-        };
-        machine.event(&mut self.flying, kind, a, b, bytes)
     }
 
     // The letters of a round come to their machines.
-    fn hand_over(&mut self, round: &Post) -> Result<(), AllocError> {
+    fn hand_over(&mut self) -> Result<(), AllocError> {
+        let round = &self.coming;
         for head in round.heads.iter() {
+            let event = Event::Letter {
+                from: head.from,
+                bytes: round.letter(*head),
+            };
+            if let Some(machine) = self.machines.get_mut(head.to.0 as usize) {
+                machine.event(&mut self.flying, event)?;
+            }
             self.letters = self.letters.saturating_add(1);
-            self.event(head.to, 3, head.from, 0, round.letter(*head))?;
         }
         Ok(())
     }
@@ -202,26 +184,25 @@ impl Cluster {
                 return Ok(());
             }
             mem::swap(&mut self.flying, &mut self.coming);
-            let mut round = mem::replace(&mut self.coming, Post::new(self.heap));
-            let result = self.hand_over(&round);
-            round.clear();
-            self.coming = round;
-            result?;
+            self.flying.clear();
+            self.hand_over()?;
         }
         Ok(())
     }
 
     /// All machines anew, with a leader.
     pub fn start(&mut self) -> Result<(), AllocError> {
-        let size = self.size;
+        let size = ClusterSize(self.machines.len() as u64);
         for machine in self.machines.iter_mut() {
             machine.forget();
-        }
-        for id in 0..size {
-            self.event(id, 0, id, size, b"")?;
+            let power = Event::Power {
+                id: machine.id,
+                size,
+            };
+            machine.event(&mut self.flying, power)?;
         }
         for _ in 0..TICKS {
-            self.event(self.leader(), 4, 0, 0, b"")?;
+            self.event(self.leader(), Event::Tick)?;
             self.deliver()?;
         }
         self.letters = 0;
@@ -231,8 +212,8 @@ impl Cluster {
     /// Proposes so many values, and lets letters come after each window.
     pub fn decide(&mut self, decisions: u64) -> Result<(), AllocError> {
         for i in 0..decisions {
-            self.event(self.leader(), 1, 0, 0, &VALUE)?;
-            if i % self.window.max(1) == self.window.max(1) - 1 {
+            self.event(self.leader(), Event::Propose(&VALUE))?;
+            if (i + 1).is_multiple_of(self.window) {
                 self.deliver()?;
             }
         }
@@ -241,11 +222,8 @@ impl Cluster {
 
     /// How many decisions the machine that has fewest has applied.
     pub fn fewest_applied(&self) -> u64 {
-        let mut fewest = u64::MAX;
-        for machine in self.machines.iter() {
-            fewest = fewest.min(machine.applied);
-        }
-        fewest
+        let applied = self.machines.iter().map(|machine| machine.applied);
+        applied.min().unwrap_or(0)
     }
 }
 

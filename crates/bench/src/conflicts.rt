@@ -1,13 +1,12 @@
 //! Where a long log and the blocks of another part: they agree up to the last block, and differ at its first entry.
-ghost use Rattle.std.specs.Prelude.{◌≡◌, length};
-ghost use Rattle.raft_log.specs.Layout.{memory_words};
+ghost use Rattle.std.specs.Prelude.{◌≤◌};
 
 use crate::timing::Work;
-use raft_log::block::{MAX_BLOCK_ENTRIES, is_valid_block};
+use raft_log::block::{Block, MAX_BLOCK_ENTRIES};
 use raft_log::block_writer::write_block;
 use raft_log::conflict::{find_conflict, find_conflict_by_term};
 use raft_log::entries::{append_empty, append_value};
-use raft_log::layout::MEMORY_WORDS;
+use raft_log::layout::{MEMORY_WORDS, Memory};
 use raft_log::{Index, Term};
 use std::alloc::{AllocError, Global};
 
@@ -23,57 +22,65 @@ const BLOCK_ROOM: usize = 4096;
 
 const VALUE: [u8; 16] = [7; 16];
 
-// Entries with a value and empty ones in turn, as many as agree of term 1.
-fn fill(memory: &mut [u64], entries: u64, rest: Term)
-    requires { length memory.old ≡ memory_words }
-{
+// A log of entries with a value and empty ones in turn, as many as agree of term 1.
+fn log(heap: Global, entries: u64, rest: Term) -> Result<Box<Memory>, AllocError> {
+    let mut memory = Box::new(heap, [0; MEMORY_WORDS])?;
     for i in 0..entries {
         let term = if i < AGREEING { Term(1) } else { rest };
         let _ = if i % 2 == 0 {
-            append_value(memory, term, &VALUE)
+            append_value(&mut memory, term, &VALUE)
         } else {
-            append_empty(memory, term)
+            append_empty(&mut memory, term)
         };
     }
+    Ok(memory)
 }
 
-// The blocks of a log that is of term 1 throughout.
-fn blocks(heap: Global) -> Result<Vec<Vec<u8>>, AllocError> {
-    let mut memory = vec![in heap; 0; MEMORY_WORDS]?;
-    fill(&mut memory, BLOCKS * BLOCK_ENTRIES, Term(1));
-    let mut blocks = Vec::new(heap);
-    for i in 0..BLOCKS {
-        let mut block = vec![in heap; 0; BLOCK_ROOM]?;
-        let first = Index(i * BLOCK_ENTRIES + 1);
-        let end = write_block(&memory, first, MAX_BLOCK_ENTRIES, &mut block, 0);
-        block.truncate(end);
-        blocks.push(block)?;
-    }
-    Ok(blocks)
+// A block as bytes, and the index that it comes behind.
+#[derive(Drop)]
+struct Placed {
+    prev: Index,
+    bytes: Vec<u8>,
+    ghost in_log: { prev.0 ≤ 8193 },
 }
 
-// Where the log and a block behind `prev` part; the block is checked first, as that of a letter is.
-fn parts_at(memory: &[u64], prev: u64, block: &[u8]) -> Option<Index>
-    requires { length memory.now ≡ memory_words }
-{
-    if prev > ENTRIES || !is_valid_block(block, MAX_BLOCK_ENTRIES) {
-        return None;
+impl Placed {
+    // The block of a log behind `prev`.
+    fn new(heap: Global, memory: &Memory, prev: Index) -> Result<Placed, AllocError>
+        requires { prev.0 ≤ 8193 }
+    {
+        let mut bytes = vec![in heap; 0; BLOCK_ROOM]?;
+        let first = Index(prev.0 + 1);
+        let end = write_block(memory, first, MAX_BLOCK_ENTRIES, &mut bytes, 0);
+        bytes.truncate(end);
+        Ok(Placed { prev, bytes })
     }
-    find_conflict(memory, Index(prev), block, MAX_BLOCK_ENTRIES)
+
+    // Where a log and the block part; it is checked first, as that of a letter is.
+    fn conflict(&self, memory: &Memory) -> Option<Index> {
+        let block = Block::new(&self.bytes, MAX_BLOCK_ENTRIES)?;
+        find_conflict(memory, self.prev, &block)
+    }
 }
 
 #[derive(Drop)]
 pub struct Conflict {
-    memory: Vec<u64>,
-    blocks: Vec<Vec<u8>>,
+    memory: Box<Memory>,
+    blocks: Vec<Placed>,
 }
 
 impl Conflict {
+    /// The blocks are those of a log that is of term 1 throughout.
     pub fn new(heap: Global) -> Result<Conflict, AllocError> {
-        let mut memory = vec![in heap; 0; MEMORY_WORDS]?;
-        fill(&mut memory, ENTRIES, Term(2));
-        let blocks = blocks(heap)?;
-        Ok(Conflict { memory, blocks })
+        let other = log(heap, BLOCKS * BLOCK_ENTRIES, Term(1))?;
+        let mut blocks = Vec::new(heap);
+        for i in 0..BLOCKS {
+            blocks.push(Placed::new(heap, &other, Index(i * BLOCK_ENTRIES))?)?;
+        }
+        Ok(Conflict {
+            memory: log(heap, ENTRIES, Term(2))?,
+            blocks,
+        })
     }
 }
 
@@ -87,31 +94,23 @@ impl Work for Conflict {
     }
 
     fn round(&mut self) -> u64 {
-        let memory: &[u64] = &self.memory;
-        if memory.len() != MEMORY_WORDS {
-            return 0;
-        }
-        let mut prev = 0u64;
-        for block in self.blocks.iter() {
-            if let Some(index) = parts_at(memory, prev, block) {
-                return index.0;
-            }
-            prev = prev.saturating_add(BLOCK_ENTRIES);
-        }
-        0
+        self.blocks
+            .iter()
+            .find_map(|block| block.conflict(&self.memory))
+            .map_or(0, |index| index.0)
     }
 }
 
 #[derive(Drop)]
 pub struct Hint {
-    memory: Vec<u64>,
+    memory: Box<Memory>,
 }
 
 impl Hint {
     pub fn new(heap: Global) -> Result<Hint, AllocError> {
-        let mut memory = vec![in heap; 0; MEMORY_WORDS]?;
-        fill(&mut memory, ENTRIES, Term(2));
-        Ok(Hint { memory })
+        Ok(Hint {
+            memory: log(heap, ENTRIES, Term(2))?,
+        })
     }
 }
 
@@ -125,10 +124,6 @@ impl Work for Hint {
     }
 
     fn round(&mut self) -> u64 {
-        let memory: &[u64] = &self.memory;
-        if memory.len() != MEMORY_WORDS {
-            return 0;
-        }
-        ENTRIES.saturating_sub(find_conflict_by_term(memory, Index(ENTRIES), Term(0)).0)
+        ENTRIES.saturating_sub(find_conflict_by_term(&self.memory, Index(ENTRIES), Term(0)).0)
     }
 }

@@ -1,5 +1,6 @@
 //! What more than half have, of few and of many.
 use crate::timing::Work;
+use raft_log::Index;
 use std::alloc::{AllocError, Global};
 use tracker::committed_index;
 
@@ -7,7 +8,7 @@ use tracker::committed_index;
 pub struct Half {
     name: &'static str,
     indices: Vec<u64>,
-    expected: u64,
+    expected: Index,
     operations: u64,
 }
 
@@ -19,16 +20,20 @@ impl Half {
         size: u64,
         operations: u64,
     ) -> Result<Half, AllocError> {
-        let mut indices = Vec::new(heap);
-        for i in 0..size {
-            indices.push(i)?;
-        }
         Ok(Half {
             name,
-            indices,
-            expected: size.saturating_sub(1) / 2,
+            indices: (0..size).collect(heap)?,
+            expected: Index(size.saturating_sub(1) / 2),
             operations,
         })
+    }
+
+    // The first index differs each time.
+    fn is_right(&mut self, i: u64) -> bool {
+        if let Some(first) = self.indices.first_mut() {
+            *first = i % 2;
+        }
+        committed_index(&self.indices) == Some(self.expected)
     }
 }
 
@@ -42,16 +47,6 @@ impl Work for Half {
     }
 
     fn round(&mut self) -> u64 {
-        let mut right = 0u64;
-        for i in 0..self.operations {
-            // The first differs each time.
-            if let Some(first) = self.indices.first_mut() {
-                *first = i % 2;
-            }
-            if let Some(index) = committed_index(&self.indices) {
-                right = right.saturating_add(u64::from(index.0 == self.expected));
-            }
-        }
-        right
+        (0..self.operations).filter(|i| self.is_right(*i)).count() as u64
     }
 }

@@ -1,15 +1,14 @@
 //! A full append letter, of 15 entries of 256 bytes, to bytes and back, beside a copy of as many bytes.
-ghost use Rattle.std.specs.Prelude.{◌≡◌, ◌≤◌, length};
-ghost use Rattle.raft_log.specs.Layout.{memory_words};
+ghost use Rattle.std.specs.Prelude.{◌≤◌};
 
 use crate::timing::Work;
 use messages::decoder::decode;
 use messages::encoder::encode;
-use messages::{BLOCK_AT, MAX_LETTER_BYTES, Message};
-use raft_log::accept::maybe_append;
-use raft_log::block::{MAX_BLOCK_ENTRIES, is_valid_block};
+use messages::{MAX_LETTER_BYTES, Message};
+use raft_log::accept::{Append, maybe_append};
+use raft_log::block::MAX_BLOCK_ENTRIES;
 use raft_log::entries::append_value;
-use raft_log::layout::{LAST_INDEX, MEMORY_WORDS};
+use raft_log::layout::{LAST_INDEX, MEMORY_WORDS, Memory};
 use raft_log::{Index, Term};
 use std::alloc::{AllocError, Global};
 
@@ -18,45 +17,59 @@ const VALUE: [u8; 256] = [7; 256];
 const OPERATIONS: u64 = 1000;
 // So many letters are decoded in turn.
 const LETTERS: u64 = 8;
-/// 34 bytes of numbers, 15 rows of 10 bytes, 15 values of 256.
+// 34 bytes of numbers, 15 rows of 10 bytes, 15 values of 256.
 const LETTER_BYTES: usize = 4024;
 // The low byte of a letter's term, behind its kind.
 const TERM_AT: usize = 1;
 
-fn full_append(term: u64, memory: &[u64], out: &mut [u8]) -> usize
-    requires { (length memory.now ≡ memory_words) × (4096 ≤ length out.old) }
+fn full_append(term: Term, memory: &Memory, out: &mut [u8; MAX_LETTER_BYTES]) -> usize
     ensures { result ≤ 4096 }
 {
     let message = Message::Append {
-        term: Term(term),
+        term,
         prev_index: Index(0),
         prev_term: Term(0),
         commit: Index(0),
-        count: MAX_BLOCK_ENTRIES,
+        entries: MAX_BLOCK_ENTRIES,
     };
     encode(message, memory, out)
 }
 
-fn fill(memory: &mut [u64])
-    requires { length memory.old ≡ memory_words }
-{
+// A log of as many entries as a letter takes.
+fn full_log(heap: Global) -> Result<Box<Memory>, AllocError> {
+    let mut memory = Box::new(heap, [0; MEMORY_WORDS])?;
     for _ in 0..MAX_BLOCK_ENTRIES {
-        let _ = append_value(memory, Term(1), &VALUE);
+        let _ = append_value(&mut memory, Term(1), &VALUE);
     }
+    Ok(memory)
+}
+
+// The bytes of a full letter.
+fn letter(heap: Global, term: Term) -> Result<Vec<u8>, AllocError> {
+    let memory = full_log(heap)?;
+    let mut out = [0; MAX_LETTER_BYTES];
+    let end = full_append(term, &memory, &mut out);
+    Vec::from_slice(heap, &out[..end])
 }
 
 #[derive(Drop)]
 pub struct Encode {
-    memory: Vec<u64>,
-    out: Vec<u8>,
+    memory: Box<Memory>,
+    out: Box<[u8; MAX_LETTER_BYTES]>,
 }
 
 impl Encode {
     pub fn new(heap: Global) -> Result<Encode, AllocError> {
-        let mut memory = vec![in heap; 0; MEMORY_WORDS]?;
-        fill(&mut memory);
-        let out = vec![in heap; 0; MAX_LETTER_BYTES]?;
-        Ok(Encode { memory, out })
+        Ok(Encode {
+            memory: full_log(heap)?,
+            out: Box::new(heap, [0; MAX_LETTER_BYTES])?,
+        })
+    }
+
+    fn is_right(&mut self, term: u64) -> bool {
+        full_append(Term(term), &self.memory, &mut self.out) == LETTER_BYTES
+            && u64::from(self.out[TERM_AT]) == term % 256
+            && self.out[LETTER_BYTES - 1] == 7
     }
 }
 
@@ -70,38 +83,15 @@ impl Work for Encode {
     }
 
     fn round(&mut self) -> u64 {
-        let memory: &[u64] = &self.memory;
-        let out: &mut [u8] = &mut self.out;
-        if memory.len() != MEMORY_WORDS || out.len() < MAX_LETTER_BYTES {
-            return 0;
-        }
-        let mut right = 0u64;
-        for i in 0..OPERATIONS {
-            let whole = full_append(i, memory, out) == LETTER_BYTES;
-            let is_right = whole
-                && u64::from(out[TERM_AT]) == i % 256
-                && out[LETTER_BYTES - 1] == 7;
-            right = right.saturating_add(u64::from(is_right));
-        }
-        right
+        (0..OPERATIONS).filter(|i| self.is_right(*i)).count() as u64
     }
-}
-
-/// The bytes of a full letter.
-fn letter(heap: Global, term: u64) -> Result<Vec<u8>, AllocError> {
-    let mut memory = vec![in heap; 0; MEMORY_WORDS]?;
-    fill(&mut memory);
-    let mut out = vec![in heap; 0; MAX_LETTER_BYTES]?;
-    let end = full_append(term, &memory, &mut out);
-    out.truncate(end);
-    Ok(out)
 }
 
 // Are these bytes an append with all its entries, of one of the terms in use?
 fn is_append(bytes: &[u8]) -> bool {
     match decode(bytes) {
-        Some(Message::Append { term, count, .. }) => {
-            term.0 < LETTERS && count == MAX_BLOCK_ENTRIES
+        Some(Message::Append { term, entries, .. }) => {
+            term < Term(LETTERS) && entries.len() == MAX_BLOCK_ENTRIES
         }
         _ => false,
     }
@@ -114,11 +104,10 @@ pub struct Decode {
 
 impl Decode {
     pub fn new(heap: Global) -> Result<Decode, AllocError> {
-        let mut letters = Vec::new(heap);
-        for term in 0..LETTERS {
-            letters.push(letter(heap, term)?)?;
-        }
-        Ok(Decode { letters })
+        let letters = (0..LETTERS).map(|term| letter(heap, Term(term)));
+        Ok(Decode {
+            letters: letters.try_collect(heap)?,
+        })
     }
 }
 
@@ -132,28 +121,30 @@ impl Work for Decode {
     }
 
     fn round(&mut self) -> u64 {
-        let mut right = 0u64;
-        for _ in 0..OPERATIONS / LETTERS {
-            for letter in self.letters.iter() {
-                right = right.saturating_add(u64::from(is_append(letter)));
-            }
-        }
-        right
+        let letters = self.letters.iter().cycle().take(OPERATIONS as usize);
+        letters.filter(|letter| is_append(letter)).count() as u64
     }
 }
 
 #[derive(Drop)]
 pub struct Copying {
-    from: Vec<u8>,
-    to: Vec<u8>,
+    from: Box<[u8; LETTER_BYTES]>,
+    to: Box<[u8; LETTER_BYTES]>,
 }
 
 impl Copying {
     pub fn new(heap: Global) -> Result<Copying, AllocError> {
         Ok(Copying {
-            from: letter(heap, 1)?,
-            to: letter(heap, 1)?,
+            from: Box::new(heap, [7; LETTER_BYTES])?,
+            to: Box::new(heap, [7; LETTER_BYTES])?,
         })
+    }
+
+    fn is_right(&mut self, i: u64) -> bool {
+        let byte = (i % 256) as u8;
+        self.from[TERM_AT] = byte;
+        self.to.copy_from_slice(&*self.from);
+        self.to[TERM_AT] == byte && self.to[LETTER_BYTES - 1] == 7
     }
 }
 
@@ -167,35 +158,48 @@ impl Work for Copying {
     }
 
     fn round(&mut self) -> u64 {
-        let from: &mut [u8] = &mut self.from;
-        let to: &mut [u8] = &mut self.to;
-        if from.len() != LETTER_BYTES || to.len() != LETTER_BYTES {
-            return 0;
-        }
-        let mut right = 0u64;
-        for i in 0..OPERATIONS {
-            from[TERM_AT] = (i % 256) as u8;
-            to.copy_from_slice(from);
-            let is_right = u64::from(to[TERM_AT]) == i % 256 && to[LETTER_BYTES - 1] == 7;
-            right = right.saturating_add(u64::from(is_right));
-        }
-        right
+        (0..OPERATIONS).filter(|i| self.is_right(*i)).count() as u64
     }
 }
 
 #[derive(Drop)]
 pub struct Take {
-    memory: Vec<u64>,
+    memory: Box<Memory>,
     letter: Vec<u8>,
 }
 
 impl Take {
     pub fn new(heap: Global) -> Result<Take, AllocError> {
         Ok(Take {
-            memory: vec![in heap; 0; MEMORY_WORDS]?,
-            letter: letter(heap, 1)?,
+            memory: Box::new(heap, [0; MEMORY_WORDS])?,
+            letter: letter(heap, Term(1))?,
         })
     }
+}
+
+// What a letter asks a follower to append.
+fn append_of(letter: &[u8]) -> Option<Append<'_>> {
+    match decode(letter)? {
+        Message::Append {
+            prev_index,
+            prev_term,
+            commit,
+            entries,
+            ..
+        } => Some(Append {
+            prev: prev_index,
+            prev_term,
+            commit,
+            block: entries,
+        }),
+        _ => None,
+    }
+}
+
+// Is an append taken by an empty log?
+fn is_taken(memory: &mut Memory, append: &Append<'_>) -> bool {
+    memory[LAST_INDEX] = 0;
+    maybe_append(memory, append).is_ok()
 }
 
 impl Work for Take {
@@ -208,28 +212,11 @@ impl Work for Take {
     }
 
     fn round(&mut self) -> u64 {
-        let memory: &mut [u64] = &mut self.memory;
-        let letter: &[u8] = &self.letter;
-        if memory.len() != MEMORY_WORDS || letter.len() != LETTER_BYTES {
+        let Some(append) = append_of(&self.letter) else {
             return 0;
-        }
-        let block = &letter[BLOCK_AT..];
-        if !is_valid_block(block, MAX_BLOCK_ENTRIES) {
-            return 0;
-        }
-        let mut right = 0u64;
-        for _ in 0..OPERATIONS {
-            memory[LAST_INDEX] = 0;
-            let taken = maybe_append(
-                memory,
-                Index(0),
-                Term(0),
-                Index(0),
-                block,
-                MAX_BLOCK_ENTRIES,
-            );
-            right = right.saturating_add(u64::from(taken.is_ok()));
-        }
-        right
+        };
+        (0..OPERATIONS)
+            .filter(|_| is_taken(&mut self.memory, &append))
+            .count() as u64
     }
 }

@@ -14,21 +14,21 @@ use anyhow::anyhow;
 use appends::{Append, ReadBack};
 use clusters::Cluster;
 use conflicts::{Conflict, Hint};
-use events::{Event, Kind};
+use events::{Kind, Reaction};
 use halves::Half;
 use letters::{Copying, Decode, Encode, Take};
 use std::env;
 use timing::report;
 
 fn time_values(rt: &HostRuntime) -> anyhow::Result<()> {
-    let mut short = Append::new(rt.alloc(), "append an entry of 16 bytes", 16)?;
-    report(rt, &mut short)?;
-    let mut read = ReadBack::new("read back 16 bytes", short.into_memory(), 16);
-    report(rt, &mut read)?;
-    let mut long = Append::new(rt.alloc(), "append an entry of 256 bytes", 256)?;
-    report(rt, &mut long)?;
-    let mut read = ReadBack::new("read back 256 bytes", long.into_memory(), 256);
-    report(rt, &mut read)?;
+    for (append, read, bytes) in [
+        ("append an entry of 16 bytes", "read back 16 bytes", 16),
+        ("append an entry of 256 bytes", "read back 256 bytes", 256),
+    ] {
+        let mut log = Append::new(rt.alloc(), append, bytes)?;
+        report(rt, &mut log)?;
+        report(rt, &mut ReadBack::new(read, log.into_memory(), bytes))?;
+    }
     Ok(())
 }
 
@@ -60,10 +60,8 @@ fn time_letters(rt: &HostRuntime) -> anyhow::Result<()> {
 }
 
 fn time_halves(rt: &HostRuntime) -> anyhow::Result<()> {
-    let mut few = Half::rising(rt.alloc(), "half of 7", 7, 10_000)?;
-    report(rt, &mut few)?;
-    let mut many = Half::rising(rt.alloc(), "half of 1,024", 1024, 4)?;
-    report(rt, &mut many)?;
+    report(rt, &mut Half::rising(rt.alloc(), "half of 7", 7, 10_000)?)?;
+    report(rt, &mut Half::rising(rt.alloc(), "half of 1,024", 1024, 4)?)?;
     Ok(())
 }
 
@@ -87,41 +85,35 @@ fn time_cluster(
 }
 
 fn time_clusters(rt: &HostRuntime) -> anyhow::Result<()> {
-    time_cluster(rt, "1 machine, 1 at a time", 1, 1)?;
-    time_cluster(rt, "1 machine, 16 at a time", 1, 16)?;
-    time_cluster(rt, "3 machines, 1 at a time", 3, 1)?;
-    time_cluster(rt, "3 machines, 16 at a time", 3, 16)?;
-    time_cluster(rt, "5 machines, 1 at a time", 5, 1)?;
-    time_cluster(rt, "5 machines, 16 at a time", 5, 16)
-}
-
-fn time_event(
-    rt: &HostRuntime,
-    name: &'static str,
-    kind: Kind,
-    entries: u64,
-) -> anyhow::Result<()> {
-    report(rt, &mut Event::new(rt.alloc(), name, kind, entries)?)?;
+    for (name, size, window) in [
+        ("1 machine, 1 at a time", 1, 1),
+        ("1 machine, 16 at a time", 1, 16),
+        ("3 machines, 1 at a time", 3, 1),
+        ("3 machines, 16 at a time", 3, 16),
+        ("5 machines, 1 at a time", 5, 1),
+        ("5 machines, 16 at a time", 5, 16),
+    ] {
+        time_cluster(rt, name, size, window)?;
+    }
     Ok(())
 }
 
 fn time_events(rt: &HostRuntime) -> anyhow::Result<()> {
-    time_event(rt, "tick at 10 entries", Kind::Tick, 10)?;
-    time_event(rt, "tick at 4,000 entries", Kind::Tick, 4000)?;
-    time_event(rt, "proposal at 10 entries", Kind::Proposal, 10)?;
-    time_event(rt, "proposal at 4,000 entries", Kind::Proposal, 4000)?;
-    time_event(
-        rt,
-        "acknowledgement at 10 entries",
-        Kind::Acknowledgement,
-        10,
-    )?;
-    time_event(
-        rt,
-        "acknowledgement at 4,000 entries",
-        Kind::Acknowledgement,
-        4000,
-    )
+    for (name, kind, entries) in [
+        ("tick at 10 entries", Kind::Tick, 10),
+        ("tick at 4,000 entries", Kind::Tick, 4000),
+        ("proposal at 10 entries", Kind::Proposal, 10),
+        ("proposal at 4,000 entries", Kind::Proposal, 4000),
+        ("acknowledgement at 10 entries", Kind::Acknowledgement, 10),
+        (
+            "acknowledgement at 4,000 entries",
+            Kind::Acknowledgement,
+            4000,
+        ),
+    ] {
+        report(rt, &mut Reaction::new(rt.alloc(), name, kind, entries)?)?;
+    }
+    Ok(())
 }
 
 fn time_parts(rt: &HostRuntime) -> anyhow::Result<()> {

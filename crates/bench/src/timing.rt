@@ -1,10 +1,9 @@
 //! Takes the time of a round of operations, again and again.
 use anyhow::anyhow;
+use std::fmt;
 use std::time::Instant;
 
 const ROUNDS: usize = 200;
-
-const MAX_NANOS: u128 = u64::MAX as u128;
 
 /// What is timed. A round does so many operations, and says how many of them came out right.
 pub trait Work {
@@ -26,6 +25,23 @@ pub struct Timing {
     pub worst: u64,
 }
 
+// Tenths of a nanosecond.
+#[derive(Clone, Copy)]
+struct Tenths(u64);
+
+impl Tenths {
+    // What one of so many operations takes.
+    fn of_each(nanos: u64, operations: u64) -> Tenths {
+        Tenths(nanos.saturating_mul(10) / operations.max(1))
+    }
+}
+
+impl fmt::Display for Tenths {
+    fn fmt<W: fmt::Write>(&self, f: &mut fmt::Formatter<W>) -> fmt::Result {
+        write!(f, "{}.{}", self.0 / 10, self.0 % 10)
+    }
+}
+
 fn time_round<W: Work>(rt: &HostRuntime, work: &mut W) -> anyhow::Result<u64> {
     work.prepare();
     let start = Instant::now(rt)?;
@@ -34,42 +50,29 @@ fn time_round<W: Work>(rt: &HostRuntime, work: &mut W) -> anyhow::Result<u64> {
     if right != work.operations() {
         return Err(anyhow!("an operation came out wrong"));
     }
-    Ok(nanos.min(MAX_NANOS) as u64)
+    Ok(u64::try_from(nanos).unwrap_or(u64::MAX))
 }
 
 fn time<W: Work>(rt: &HostRuntime, work: &mut W) -> anyhow::Result<Timing> {
-    let mut times = Vec::new(rt.alloc());
-    for _ in 0..ROUNDS {
-        times.push(time_round(rt, work)?)?;
+    let mut times = [0; ROUNDS];
+    for time in times.iter_mut() {
+        *time = time_round(rt, work)?;
     }
     times.sort_unstable();
     Ok(Timing {
-        best: times.first().copied().unwrap_or(0),
-        middle: times.get(ROUNDS / 2).copied().unwrap_or(0),
-        worst: times.last().copied().unwrap_or(0),
+        best: times[0],
+        middle: times[ROUNDS / 2],
+        worst: times[ROUNDS - 1],
     })
-}
-
-// Tenths of a nanosecond for an operation.
-fn tenths(nanos: u64, operations: u64) -> u64 {
-    nanos.saturating_mul(10) / operations.max(1)
 }
 
 /// Times a work and prints nanoseconds for an operation.
 pub fn report<W: Work>(rt: &HostRuntime, work: &mut W) -> anyhow::Result<Timing> {
     let timing = time(rt, work)?;
     let name = work.name();
-    let best = tenths(timing.best, work.operations());
-    let middle = tenths(timing.middle, work.operations());
-    let worst = tenths(timing.worst, work.operations());
-    println!(rt;
-        "{name}: {}.{} ns (middle {}.{}, worst {}.{})",
-        best / 10,
-        best % 10,
-        middle / 10,
-        middle % 10,
-        worst / 10,
-        worst % 10
-    )?;
+    let best = Tenths::of_each(timing.best, work.operations());
+    let middle = Tenths::of_each(timing.middle, work.operations());
+    let worst = Tenths::of_each(timing.worst, work.operations());
+    println!(rt; "{name}: {best} ns (middle {middle}, worst {worst})")?;
     Ok(timing)
 }

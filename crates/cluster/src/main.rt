@@ -4,6 +4,8 @@
 mod node;
 
 use node::Node;
+use raft::header::ClusterSize;
+use raft_log::MachineId;
 use std::{env, fs};
 
 const TICKS_TO_LEAD: u64 = 10;
@@ -22,7 +24,7 @@ fn lines_of(rt: &HostRuntime) -> anyhow::Result<String> {
 
 fn start(rt: &HostRuntime, node: &mut Node) -> anyhow::Result<()> {
     println!(rt; "power")?;
-    node.power(rt, 0, 1)?;
+    node.power(rt, MachineId(0), ClusterSize(1))?;
     for _ in 0..TICKS_TO_LEAD {
         node.tick(rt)?;
     }

@@ -1,74 +1,82 @@
 //! A machine with its memory, what of it is safe, and a place for what its acts carry.
-use anyhow::anyhow;
+use anyhow::{Context, anyhow};
+use raft::header::ClusterSize;
+use raft_log::MachineId;
+use raft_log::layout::{MEMORY_WORDS, Memory};
 use std::alloc::{AllocError, Global};
-use together::{MEMORY_WORDS, Told, step};
+use together::Told;
+use together::alone::Alone;
+use together::engine::{Event, MAX_LETTER_BYTES, react};
 
-const LETTER_BYTES: usize = 4096;
 // Above any number of acts that an event begins.
 const MAX_ACTS: u64 = 10_000;
 
 #[derive(Drop)]
 pub struct Node {
-    memory: Vec<u64>,
-    stable: Vec<u64>,
-    out: Vec<u8>,
+    memory: Box<Memory>,
+    stable: Box<Memory>,
+    out: Box<[u8; MAX_LETTER_BYTES]>,
 }
 
 impl Node {
     pub fn new(heap: Global) -> Result<Node, AllocError> {
         Ok(Node {
-            memory: vec![in heap; 0; MEMORY_WORDS]?,
-            stable: vec![in heap; 0; MEMORY_WORDS]?,
-            out: vec![in heap; 0; LETTER_BYTES]?,
+            memory: Box::new(heap, [0; MEMORY_WORDS])?,
+            stable: Box::new(heap, [0; MEMORY_WORDS])?,
+            out: Box::new(heap, [0; MAX_LETTER_BYTES])?,
         })
     }
 
     /// Power goes: memory is what was last made safe.
     pub fn stop(&mut self) {
-        copy(&mut self.memory, &self.stable);
+        *self.memory = *self.stable;
     }
 
-    pub fn power(&mut self, rt: &HostRuntime, id: u64, size: u64) -> anyhow::Result<()> {
-        self.event(rt, 0, id, size, b"")
+    pub fn power(
+        &mut self,
+        rt: &HostRuntime,
+        id: MachineId,
+        size: ClusterSize,
+    ) -> anyhow::Result<()> {
+        self.event(rt, Event::Power { id, size })
     }
 
     pub fn propose(&mut self, rt: &HostRuntime, value: &[u8]) -> anyhow::Result<()> {
-        self.event(rt, 1, 0, 0, value)
+        self.event(rt, Event::Propose(value))
     }
 
     pub fn how_far(&mut self, rt: &HostRuntime) -> anyhow::Result<()> {
-        self.event(rt, 2, 0, 0, b"")
+        self.event(rt, Event::HowFar)
     }
 
     pub fn tick(&mut self, rt: &HostRuntime) -> anyhow::Result<()> {
-        self.event(rt, 4, 0, 0, b"")
+        self.event(rt, Event::Tick)
     }
 
     // One event, act by act, till it is done or refused.
-    fn event(
-        &mut self,
-        rt: &HostRuntime,
-        kind: u64,
-        a: u64,
-        b: u64,
-        bytes: &[u8],
-    ) -> anyhow::Result<()> {
-        let mut told = step(&mut self.memory, kind, a, b, bytes, &mut self.out);
+    fn event(&mut self, rt: &HostRuntime, event: Event<'_>) -> anyhow::Result<()> {
+        let mut told = self.told(event);
         for _ in 0..MAX_ACTS {
             if !self.act(rt, told)? {
                 return Ok(());
             }
-            told = step(&mut self.memory, 5, 0, 0, b"", &mut self.out);
+            told = self.told(Event::GoOn);
         }
         Err(anyhow!("an event that does not end"))
+    }
+
+    fn told(&mut self, event: Event<'_>) -> Told {
+        react::<Alone>(&mut self.memory, event, &mut *self.out)
     }
 
     // Does an act, and says whether more may follow.
     fn act(&mut self, rt: &HostRuntime, told: Told) -> anyhow::Result<bool> {
         match told {
-            Told::Settle => copy(&mut self.stable, &self.memory),
+            Told::Settle => *self.stable = *self.memory,
             Told::Applies(number, long) => {
-                let value = String::from_utf8_lossy(rt.alloc(), front(&self.out, long))?;
+                let value = self.out.get(..long as usize);
+                let value = value.context("a value beyond its room")?;
+                let value = String::from_utf8_lossy(rt.alloc(), value)?;
                 println!(rt; "  applied {number}: {value}")?;
             }
             Told::Shows(number) => println!(rt; "applied so far: {number}")?,
@@ -80,18 +88,5 @@ impl Node {
             }
         }
         Ok(true)
-    }
-}
-
-fn front(bytes: &[u8], long: u64) -> &[u8] {
-    if long as usize > bytes.len() {
-        return bytes;
-    }
-    &bytes[0..long as usize]
-}
-
-fn copy(to: &mut [u64], from: &[u64]) {
-    if to.len() == from.len() {
-        to.copy_from_slice(from);
     }
 }
