@@ -73,13 +73,10 @@ impl Conflict {
     /// The blocks are those of a log that is of term 1 throughout.
     pub fn new(heap: Global) -> Result<Conflict, AllocError> {
         let other = log(heap, BLOCKS * BLOCK_ENTRIES, Term(1))?;
-        let mut blocks = Vec::new(heap);
-        for i in 0..BLOCKS {
-            blocks.push(Placed::new(heap, &other, Index(i * BLOCK_ENTRIES))?)?;
-        }
+        let blocks = (0..BLOCKS).map(|i| Placed::new(heap, &other, Index(i * BLOCK_ENTRIES)));
         Ok(Conflict {
             memory: log(heap, ENTRIES, Term(2))?,
-            blocks,
+            blocks: blocks.try_collect(heap)?,
         })
     }
 }

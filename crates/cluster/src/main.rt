@@ -33,7 +33,7 @@ fn start(rt: &HostRuntime, node: &mut Node) -> anyhow::Result<()> {
 
 fn run(rt: &HostRuntime) -> anyhow::Result<()> {
     let text = lines_of(rt)?;
-    let mut node = Node::new(rt.alloc())?;
+    let mut node = Node::new();
     start(rt, &mut node)?;
     for line in text.as_str().lines() {
         println!(rt; "propose {line}")?;

@@ -3,7 +3,6 @@ use anyhow::{Context, anyhow};
 use raft::header::ClusterSize;
 use raft_log::MachineId;
 use raft_log::layout::{MEMORY_WORDS, Memory};
-use std::alloc::{AllocError, Global};
 use together::Told;
 use together::alone::Alone;
 use together::engine::{Event, MAX_LETTER_BYTES, react};
@@ -13,23 +12,23 @@ const MAX_ACTS: u64 = 10_000;
 
 #[derive(Drop)]
 pub struct Node {
-    memory: Box<Memory>,
-    stable: Box<Memory>,
-    out: Box<[u8; MAX_LETTER_BYTES]>,
+    memory: Memory,
+    stable: Memory,
+    out: [u8; MAX_LETTER_BYTES],
 }
 
 impl Node {
-    pub fn new(heap: Global) -> Result<Node, AllocError> {
-        Ok(Node {
-            memory: Box::new(heap, [0; MEMORY_WORDS])?,
-            stable: Box::new(heap, [0; MEMORY_WORDS])?,
-            out: Box::new(heap, [0; MAX_LETTER_BYTES])?,
-        })
+    pub fn new() -> Node {
+        Node {
+            memory: [0; MEMORY_WORDS],
+            stable: [0; MEMORY_WORDS],
+            out: [0; MAX_LETTER_BYTES],
+        }
     }
 
     /// Power goes: memory is what was last made safe.
     pub fn stop(&mut self) {
-        *self.memory = *self.stable;
+        self.memory.copy_from_slice(&self.stable);
     }
 
     pub fn power(
@@ -66,13 +65,13 @@ impl Node {
     }
 
     fn told(&mut self, event: Event<'_>) -> Told {
-        react::<Alone>(&mut self.memory, event, &mut *self.out)
+        react::<Alone>(&mut self.memory, event, &mut self.out)
     }
 
     // Does an act, and says whether more may follow.
     fn act(&mut self, rt: &HostRuntime, told: Told) -> anyhow::Result<bool> {
         match told {
-            Told::Settle => *self.stable = *self.memory,
+            Told::Settle => self.stable.copy_from_slice(&self.memory),
             Told::Applies(number, long) => {
                 let value = self.out.get(..long as usize);
                 let value = value.context("a value beyond its room")?;
