@@ -1,4 +1,4 @@
-use Rattle.std.proofs.Common.{◌≡◌, ◌+◌, length, set, refl, arith}
+use Rattle.std.proofs.Common.{◌≡◌, ◌+◌, ◌/◌, length, set, refl, arith}
 use Rattle.raft_log.specs.Values.{words_put, value_put, words_for}
 use Rattle.raft_log.proofs.Rows.{words_put_more}
 use Rattle.raft_log.proofs.values.write_value.Goals as goal
@@ -12,6 +12,16 @@ loop-j-preserved c =
     let e = words_put_more (set c.args.memory.now c.row_of-row.result (length c.args.bytes.now)) (c.row_of-row.result + 1) c.args.bytes.now c.loop-j.j in
     cc
 
-pub returns : goal.returns
+pub returns-then-bytes-gt0 : goal.returns-then-bytes-gt0
 unfolding value_put
-returns c = let e : c.loop-j.j ≡ words_for (length c.args.bytes.now) = omega arith in cc
+returns-then-bytes-gt0 c =
+    let i : c.loop-j.j ≡ length c.args.bytes.now / 8 = omega arith in
+    let e : length c.args.bytes.now / 8 + 1 ≡ words_for (length c.args.bytes.now) = omega arith in
+    let more = words_put_more (set c.args.memory.now c.row_of-row.result (length c.args.bytes.now)) (c.row_of-row.result + 1) c.args.bytes.now (length c.args.bytes.now / 8) in
+    cc
+
+pub returns-else-bytes-gt0 : goal.returns-else-bytes-gt0
+unfolding value_put
+returns-else-bytes-gt0 c =
+    let e : c.loop-j.j ≡ words_for (length c.args.bytes.now) = omega arith in
+    cc
