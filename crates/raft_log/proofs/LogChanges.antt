@@ -9,8 +9,8 @@ use Rattle.raft_log.specs.Entries.{last_index, commit_index, term_at, number_at,
 use Rattle.raft_log.specs.Accept.{truncated}
 use Rattle.raft_log.specs.View.{entry, content_between, entry_of, entries_of, log_of, Rises, TidyEntries, Tidy}
 use Rattle.raft_log.proofs.ValueLaws.{at_most_same, value_alike}
-use Rattle.raft_log.proofs.LogLaws.{SameEntries, same_entries, last_most, commit_raised_entries, commit_raised_other, length_commit_raised, applied_set_entries, applied_set_other, length_applied_set}
-use Rattle.raft_log.proofs.AppendLaws.{term_in, number_in, number_none, term_none, length_pushed, pushed_other, pushed_last, pushed_term, pushed_number, pushed_terms, pushed_numbers, pushed_held}
+use Rattle.raft_log.proofs.LogLaws.{SameEntries, same_entries, last_most, number_none, term_none, commit_raised_entries, commit_raised_other, length_commit_raised, applied_set_entries, applied_set_other, length_applied_set}
+use Rattle.raft_log.proofs.AppendLaws.{term_in, number_in, length_pushed, pushed_other, pushed_last, pushed_term, pushed_number, pushed_terms, pushed_numbers, pushed_held}
 use Rattle.raft_log.proofs.ViewLaws.{content_none, content_some, entries_alike, entries_more, take_log, number_up}
 
 -- two entries are the same by their term, their numbers and the value in their slot
@@ -120,7 +120,7 @@ module _ (m : List ℕ) (k : ℕ) where
   pub applied_set_log : log_of (applied_set m k) ≡ log_of m
   applied_set_log = same_log m (applied_set m k) (applied_set_entries m k)
 
-  applied_set_word : length m ≡ memory_words → get_or (applied_set m k) 66 0 ≡ k
+  pub applied_set_word : length m ≡ memory_words → get_or (applied_set m k) 66 0 ≡ k
   unfolding applied_set
   applied_set_word l = get_or-set_same m 66 k 0 (omega arith)
 

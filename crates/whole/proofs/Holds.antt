@@ -4,7 +4,7 @@ use Rattle.std.proofs.lemmas.List.{length_push, get_or_push, get_or_append_left,
 use Rattle.std.proofs.lemmas.Bool.{ltb-true, and_parts, cases_lt}
 use Rattle.raft_log.specs.Values.{value_at}
 use Rattle.raft_log.specs.Entries.{last_index, commit_index, number_at, values, decided, last_is_empty, value_fits, value_appended, empty_place, empty_fits, empty_appended, commit_raised}
-use Rattle.raft_log.proofs.ValueLaws.{Bytes}
+use Rattle.raft_log.specs.Bytes.{Bytes}
 use Rattle.raft_log.proofs.LogLaws.{SameEntries, commit_most, length_commit_raised, commit_raised_entries, commit_raised_up}
 use Rattle.raft_log.proofs.AppendLaws.{Roomy, roomy_appended, roomy_emptied, length_appended, appended_last, appended_values, appended_held, appended_value, length_empty, empty_last, empty_values, empty_held}
 use Rattle.together.specs.House.{every, nth_value, all_apart, an_order}

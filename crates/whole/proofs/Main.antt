@@ -5,7 +5,7 @@ use Rattle.std.proofs.lemmas.Bool.{cases_lt, false≢true}
 use Rattle.raft_log.specs.Layout.{memory_words, at_most}
 use Rattle.raft_log.specs.Entries.{last_index, applied_number, number_at, values}
 use Rattle.raft_log.proofs.LogLaws.{commit_most}
-use Rattle.raft_log.proofs.AppendLaws.{number_none}
+use Rattle.raft_log.proofs.LogLaws.{number_none}
 use Rattle.solo.specs.Header.{loaded}
 use Rattle.together.specs.House.{every, all_apart, far}
 use Rattle.together.specs.Promise.{Machine, machine, so_many, world, Right, Whole}
