@@ -5,7 +5,7 @@ use Rattle.std.proofs.lemmas.Bool.{cond-true, cases_eq, le-leb, eq-eqb, ne_eqb}
 use Rattle.raft_log.specs.Layout.{memory_words}
 use Rattle.raft_log.specs.View.{log_of, Tidy}
 use Rattle.raft_log.specs.Entries.{last_index, commit_index, applied_number, empty_place, empty_fits, empty_appended}
-use Rattle.raft_log.proofs.ValueLaws.{at_most_same}
+use Rattle.raft_log.proofs.AcceptLaws.{commit_tidy}
 use Rattle.raft_log.proofs.LogChanges.{header_log, header_tidy}
 use Rattle.raft_log.proofs.AppendLaws.{length_empty, empty_header, empty_applied}
 use Rattle.raft_log.proofs.LogAppends.{empty_appended_log, empty_appended_tidy, renew_place_log}
@@ -37,12 +37,8 @@ use Rattle.join_several.proofs.Lifts.{lift_renew_index, lift_renewed}
 use Rattle.join_several.proofs.Commits.{maybe_other, maybe_log, maybe_tidy, maybe_applied, maybe_commit_same}
 
 -- in a tidy memory the commit is the word itself
-pub tidy_commit : (m : List ℕ) → Tidy m → commit_index m ≡ get_or m 65 0
-unfolding commit_index
-tidy_commit m d = at_most_same (get_or m 65 0) (last_index m) d.commit
-
 pub commit_word : (m m₁ : List ℕ) → Tidy m → Tidy m₁ → get_or m₁ 65 0 ≡ get_or m 65 0 → commit_index m₁ ≡ commit_index m
-commit_word m m₁ d d₁ e = tidy_commit m₁ d₁ ∙ (e ∙ sym (tidy_commit m d))
+commit_word m m₁ d d₁ e = commit_tidy m₁ d₁ ∙ (e ∙ sym (commit_tidy m d))
 
 -- one word of a row is set: what the row says is updated there
 pub set_row :

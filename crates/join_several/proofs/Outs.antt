@@ -22,6 +22,7 @@ use Rattle.raft.specs.Say.{due_of}
 use Rattle.raft.specs.Outbox.{Mail, mail_due, due_to, prev_of, count_of, letter_made, mail_at, mail_from}
 use Rattle.raft.proofs.HeaderLaws.{loaded_alike}
 use Rattle.raft.proofs.RowLaws.{row_put_same}
+use Rattle.raft.proofs.Mails.{letter_alike, mails_alike}
 use Rattle.protocol.specs.Lists.{pick}
 use Rattle.protocol.specs.Log.{Log, term_before, last_term}
 use Rattle.machine.specs.Machine.{Machine, Role, follower, candidate, leader, Letter, append, request, vote, ack, reject, here, Out, out}
@@ -191,56 +192,25 @@ module _ (m m₁ : List ℕ) (term : (loaded m₁).term.0 ≡ (loaded m).term.0)
   commit : commit_index m₁ ≡ commit_index m
   commit = same_commit m m₁ entries (behind 65 (omega arith))
 
-  entry_same : (i : ℕ) → log_entry m₁ i ≡ log_entry m i
-  entry_same i = cc (entries.terms i, entries.numbers i, entries.numbers (i - 1), entries.held (number_at m i - 1))
+  letters_same : (d : Due) (j : ℕ) → j < 7 → letter_of m₁ d j ≡ letter_of m d j
+  letters_same d j l = ap lift_letter (letter_alike m m₁ entries commit term next first second d j l)
 
-  rows_same : (p n : ℕ) → log_entries m₁ p n ≡ log_entries m p n
-  unfolding log_entries
-  rows_same p n = λ i. map (λ (k : ℕ). entry_same k i) (range_with_len p n)
+  -- and so are the words of what is due
+  posted_same : ((i : ℕ) → i < 7 → get_or m₁ (29 + i) 0 ≡ get_or m (29 + i) 0) → posted m₁ ≡ posted m
+  unfolding posted
+  posted_same words = ap (λ (ls : List Mail). map lift_mail ls) (mails_alike m m₁ entries commit term next first second 0 7 (omega arith) (λ i a b. words i b))
 
-  pub letter_alike : (d : Due) (j : ℕ) → j < 7 → letter_of m₁ d j ≡ letter_of m d j
-  letter_alike Append j l =
-      let w : get_or m₁ (22 + j) 0 ≡ get_or m (22 + j) 0 = next (22 + j) (omega arith) (omega arith) in
-      let last = entries.last in
-      let p : prev_of m₁ j ≡ prev_of m j = λ i. at_most (w i - 1) (last i) in
-      let c : count_of m₁ j ≡ count_of m j = λ i. at_most (last i - p i) 15 in
-      let q : term_at m₁ (prev_of m₁ j) ≡ term_at m (prev_of m j) = ap (term_at m₁) p ∙ entries.terms (prev_of m j) in
-      let es : log_entries m₁ (prev_of m₁ j + 1) (count_of m₁ j) ≡ log_entries m (prev_of m j + 1) (count_of m j) =
-      (λ i. log_entries m₁ (p i + 1) (c i)) ∙ rows_same (prev_of m j + 1) (count_of m j) in
-      let k = commit in
-      λ i. append (term i) (p i) (q i) (k i) (lift_log (es i))
-  letter_alike RequestVote j l =
-      let last = entries.last in
-      let q : term_at m₁ (last_index m₁) ≡ term_at m (last_index m) = ap (term_at m₁) last ∙ entries.terms (last_index m) in
-      λ i. request (term i) (last i) (q i)
-  letter_alike TellTerm j l = ap here term
-  letter_alike Grant j l = λ i. vote (term i) true
-  letter_alike Deny j l = λ i. vote (term i) false
-  letter_alike Accept j l = λ i. ack (term i) (first i)
-  letter_alike Reject j l = λ i. reject (term i) (first i) (second i)
-
--- the words of what is due are the same too
 pub posted_alike :
     (m m₁ : List ℕ) → (loaded m₁).term.0 ≡ (loaded m).term.0 → ((i : ℕ) → 22 ≤ i → i < 38 → get_or m₁ i 0 ≡ get_or m i 0) → ((i : ℕ) → 64 ≤ i → get_or m₁ i 0 ≡ get_or m i 0) → posted m₁ ≡ posted m
-posted_alike m m₁ term words behind = posted_pieces m₁ ∙ (back_cong (piece m₁) (piece m) 7 (λ j l. same j l) ∙ sym (posted_pieces m))
-  where
-    made : (d : Due) (j : ℕ) → j < 7 → letter_of m₁ d j ≡ letter_of m d j
-    made = letter_alike m m₁ term (λ i a b. words i a (omega arith)) (words 36 (omega arith) (omega arith)) (words 37 (omega arith) (omega arith)) behind
-
-    by : (j : ℕ) → j < 7 → (o : Option Due) → map lift_mail (mail_at m₁ (loaded m₁) j o) ≡ map lift_mail (mail_at m (loaded m) j o)
-    by j l None = refl
-    by j l (Some d) = ap (λ (y : Letter (List ℕ)). out j y ∷ []) (made d j l)
-
-    same : (j : ℕ) → j < 7 → piece m₁ j ≡ piece m j
-    same j l =
-        by j l (due_to m₁ j) ∙ ap (λ (w : ℕ). map lift_mail (mail_at m (loaded m) j (due_of w))) (words (29 + j) (omega arith) (omega arith))
+posted_alike m m₁ term words behind =
+    posted_same m m₁ term (λ i a b. words i a (omega arith)) (words 36 (omega arith) (omega arith)) (words 37 (omega arith) (omega arith)) behind (λ i l. words (29 + i) (omega arith) (omega arith))
 
 -- WHAT IS SAID IS DUE
 module _ (m : List ℕ) (long : length m ≡ memory_words) where
   -- a row of what is due leaves the letters themselves
   row_letters : (f : ℕ → ℕ) (d : Due) (j : ℕ) → j < 7 → letter_of (row_set m 29 f) d j ≡ letter_of m d j
   row_letters f =
-      letter_alike m (row_set m 29 f) (ap (λ (y : Header Kind). y.term.0) (loaded_alike m (row_set m 29 f) (λ i l. due_row_before m f i (omega arith))))
+      letters_same m (row_set m 29 f) (ap (λ (y : Header Kind). y.term.0) (loaded_alike m (row_set m 29 f) (λ i l. due_row_before m f i (omega arith))))
       (λ i a b. due_row_before m f i b) (due_row_behind m f 36 (omega arith)) (due_row_behind m f 37 (omega arith)) (λ i l. due_row_behind m f i (omega arith))
 
   row_word : (f : ℕ → ℕ) (j : ℕ) → j < 7 → get_or (row_set m 29 f) (29 + j) 0 ≡ f j

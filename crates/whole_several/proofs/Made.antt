@@ -6,7 +6,7 @@ use Rattle.raft_log.specs.Layout.{memory_words}
 use Rattle.raft_log.specs.Values.{value_at}
 use Rattle.raft_log.specs.Entries.{commit_index, applied_number, applied_set, decided as decided_number}
 use Rattle.raft_log.proofs.LogLaws.{number_most}
-use Rattle.raft_log.proofs.LogChanges.{same_tidy}
+use Rattle.raft_log.proofs.LogChanges.{same_tidy, applied_set_word}
 use Rattle.raft.specs.declared.header.Role.{Role as Kind}
 use Rattle.raft.specs.declared.header.Machine.{Machine as Header}
 use Rattle.raft.specs.Header.{loaded, stored}
@@ -118,11 +118,6 @@ larger_le a b n p q = go (ltb a b)
     go true = q
     go false = p
 
--- the word that is set
-set_word : (m : List ℕ) (k : ℕ) → length m ≡ memory_words → get_or (applied_set m k) 66 0 ≡ k
-unfolding applied_set
-set_word m k long = get_or-set_same m 66 k 0 (omega arith)
-
 -- machine h of n, which has become x; the order o has what x holds for decided
 module _ (n h : ℕ) (few : n ≤ 7) (ps : List (List ℕ)) (x : Machine ℕ) where
   -- the memory of a machine that goes on
@@ -177,7 +172,7 @@ module _ (n h : ℕ) (few : n ≤ 7) (ps : List (List ℕ)) (x : Machine ℕ) wh
     unfolding advanced
     onward_word =
         let t = g.means (nth_value ps) (agrees_self ps) in
-        let e : get_or (applied_set (stored m (applied_up_to (loaded m) (j + 1))) (j + 1)) 66 0 ≡ j + 1 = set_word (stored m (applied_up_to (loaded m) (j + 1))) (j + 1) (length_stored m (applied_up_to (loaded m) (j + 1)) ∙ fit.long) in
+        let e : get_or (applied_set (stored m (applied_up_to (loaded m) (j + 1))) (j + 1)) 66 0 ≡ j + 1 = applied_set_word (stored m (applied_up_to (loaded m) (j + 1))) (j + 1) (length_stored m (applied_up_to (loaded m) (j + 1)) ∙ fit.long) in
         omega (arith, number_most m (commit_index m))
 
     onward_going : Going n h ps x (onward m fit.long) (got_to f (j + 1))

@@ -14,6 +14,7 @@ use Rattle.raft_log.specs.Accept.{truncated, content_taken, entry_taken, entries
 use Rattle.raft_log.proofs.ValueLaws.{at_most_le}
 use Rattle.raft_log.proofs.LogLaws.{last_most, commit_most, applied_most, number_most}
 use Rattle.raft_log.proofs.ViewLaws.{length_log}
+use Rattle.raft_log.proofs.MergeLaws.{by_term_most}
 use Rattle.messages.specs.Letter.{Letter, append, append_response, append_reject, request_vote, request_vote_response, term_notice, letter_of, LetterFits}
 use Rattle.messages.proofs.OneToOne.{one_to_one}
 use Rattle.raft.specs.declared.header.Ticks.{Ticks}
@@ -75,12 +76,6 @@ unfolding conflict
 conflict_most l p [] n h = tt
 conflict_most l p (e ∷ es) n h =
     cond_both (has_term l (suc p) e.term) (conflict l (suc p) es) (Some (index (suc p))) (λ o. AtMostIndex o n) (λ _. conflict_most l (suc p) es n (omega arith)) (λ _. omega arith)
-
-hint_most : (l : List Entry) (t i : ℕ) → conflict_by_term l t i ≤ i
-unfolding conflict_by_term
-hint_most l t zero = omega arith
-hint_most l t (suc i) =
-    cond_both (leb (term_before l (suc i)) t) (suc i) (conflict_by_term l t i) (λ n. n ≤ suc i) (λ _. omega arith) (λ _. omega (arith, hint_most l t i))
 
 term_fits : (l : Letter) → LetterFits l → letter_term l < limit
 term_fits (append t p q k es) f = f.0
@@ -348,7 +343,7 @@ module _ (b : List ℕ) where
             omega (arith, leb-true p (length (log_of m)) (and_parts (leb p (length (log_of m))) (eqb (term_before (log_of m) p) q) t).0, length_log m, last_most m)
 
         hinted : hint (log_of m) p q < limit
-        hinted = omega (arith, hint_most (log_of m) q (at_most (p - 1) (length (log_of m))), at_most_le (p - 1) (length (log_of m)), length_log m, last_most m)
+        hinted = omega (arith, by_term_most (log_of m) q (at_most (p - 1) (length (log_of m))), at_most_le (p - 1) (length (log_of m)), length_log m, last_most m)
 
     append_as_kept : (r : Role) (f p q c : ℕ) (es : List Entry) → p < limit → length es ≤ 15 → EntriesFit es → Kept b (append_as m x r f p q c es)
     append_as_kept (Follower e heard) f p q c es l few fit = append_kept f p q c es l few fit
