@@ -4,7 +4,7 @@ use Rattle.std.proofs.lemmas.List.{get_or-set_same, get_or-set_other}
 use Rattle.std.proofs.lemmas.Bool.{cond-true, cases_eq, le-leb, eq-eqb, ne_eqb}
 use Rattle.raft_log.specs.Layout.{memory_words}
 use Rattle.raft_log.specs.View.{log_of, Tidy}
-use Rattle.raft_log.specs.Entries.{last_index, commit_index, applied_number, empty_place, empty_fits, empty_appended}
+use Rattle.raft_log.specs.Entries.{commit_index, applied_number, empty_place, empty_fits, empty_appended}
 use Rattle.raft_log.proofs.AcceptLaws.{commit_tidy}
 use Rattle.raft_log.proofs.LogChanges.{header_log, header_tidy}
 use Rattle.raft_log.proofs.AppendLaws.{length_empty, empty_header, empty_applied}

@@ -2,11 +2,10 @@
 use Rattle.std.proofs.Common.{◌≡◌, ℕ, zero, suc, pred, ◌+◌, ◌-◌, ◌<◌, ◌≤◌, Bool, true, false, cond, not, ◌&&◌, eqb, ltb, ◌≢◌, List, [], ◌∷◌, ◌++◌, map, length, get_or, take, drop, set, Some, None, Option, sym, refl, ap, ◌∙◌, subst, inl, inr, add-one, arith}
 use Rattle.std.proofs.lemmas.List.{append-nil, append_assoc, map-append, length-set, length-drop, take_all, get_or-set_same, get_or-set_other}
 use Rattle.std.proofs.lemmas.Bool.{cases_eq, eq-eqb, ne_eqb, lt-ltb, le-ltb, and_left, cond-true, cond-false, cond_both, ltb-true, ltb-false}
-use Rattle.std.specs.List.{range_with_len}
 use Rattle.raft_log.specs.Layout.{memory_words, at_most}
-use Rattle.raft_log.specs.Block.{Entry as Row, log_entry, log_entries}
+use Rattle.raft_log.specs.Block.{Entry as Row, log_entries}
 use Rattle.raft_log.specs.View.{log_of}
-use Rattle.raft_log.specs.Entries.{last_index, commit_index, term_at, number_at}
+use Rattle.raft_log.specs.Entries.{last_index, commit_index, term_at}
 use Rattle.raft_log.proofs.ValueLaws.{at_most_same}
 use Rattle.raft_log.proofs.LogLaws.{SameEntries, same_entries, same_commit}
 use Rattle.raft_log.proofs.ViewLaws.{length_log, log_term, log_entries_part}
@@ -25,7 +24,7 @@ use Rattle.raft.proofs.RowLaws.{row_put_same}
 use Rattle.raft.proofs.Mails.{letter_alike, mails_alike}
 use Rattle.protocol.specs.Lists.{pick}
 use Rattle.protocol.specs.Log.{Log, term_before, last_term}
-use Rattle.machine.specs.Machine.{Machine, Role, follower, candidate, leader, Letter, append, request, vote, ack, reject, here, Out, out}
+use Rattle.machine.specs.Machine.{Machine, Role, follower, candidate, leader, Letter, append, request, ack, reject, here, Out, out}
 use Rattle.machine.specs.Step.{to_others, request_of, append_at}
 use Rattle.join_several.specs.Stands.{conf, lift_log, Leads, RoleStands, Stands}
 use Rattle.join_several.specs.Does.{lift_letter, lift_mail, posted}

@@ -1,10 +1,10 @@
 -- The machine keeps to its plan: first memory is made safe, then letters fly, then what is decided is applied.
-use Rattle.std.proofs.Common.{◌≡◌, ℕ, zero, suc, ◌+◌, ◌-◌, ◌<◌, ◌≤◌, Bool, true, false, cond, leb, ◌≢◌, List, [], ◌∷◌, ◌++◌, length, get_or, Some, None, sym, refl, ap, ◌∙◌, subst, inl, inr, arith}
+use Rattle.std.proofs.Common.{◌≡◌, ℕ, suc, ◌+◌, ◌-◌, ◌<◌, ◌≤◌, Bool, true, false, cond, leb, ◌≢◌, List, [], ◌∷◌, ◌++◌, length, get_or, Some, None, sym, refl, ap, ◌∙◌, subst, inl, inr, arith}
 use Rattle.std.proofs.lemmas.Bool.{lt-ltb, le-ltb, le-leb, and_from, cond-true, cond-false, cases_Bool, cases_lt}
 use Rattle.raft_log.specs.Layout.{memory_words}
 use Rattle.raft_log.specs.Values.{value_at}
 use Rattle.raft_log.specs.Entries.{commit_index, applied_number, decided, applied_set}
-use Rattle.raft_log.proofs.LogLaws.{number_most, SameEntries, same_applied, applied_set_applied, applied_set_other, length_applied_set}
+use Rattle.raft_log.proofs.LogLaws.{number_most, same_applied, applied_set_applied, applied_set_other, length_applied_set}
 use Rattle.messages.specs.Letter.{letter_bytes}
 use Rattle.messages.proofs.RoundTrip.{letter_all, letter_short}
 use Rattle.raft.specs.declared.header.Role.{Role}
@@ -18,7 +18,10 @@ use Rattle.together.specs.Machine.{answer, decisions_from}
 use Rattle.together_several.specs.Machine.{apply_due, send_due, go_on, own_step, letters_from, acts}
 use Rattle.together_several.specs.Entry.{own}
 use Rattle.whole.proofs.Plans.{Planned, PlannedAct}
-use Rattle.whole_several.proofs.Smalls.{Kept, kept_go_on, are_bytes_from}
+use Rattle.together.proofs.Lists.{are_bytes_from}
+use Rattle.together.proofs.Smalls.{Kept}
+use Rattle.together.proofs.Decisions.{same_decisions}
+use Rattle.whole_several.proofs.Smalls.{kept_go_on}
 use Rattle.whole_several.proofs.Mails.{Still, still_entries, still_decided, mail_same, still_flown, flown_loaded, flown_applied, Flies, flies_first, MailsFit, mail_fits, no_way}
 
 -- memories that the machine runs on
@@ -36,11 +39,6 @@ rest m = (go_on m).memory
 pub rest_fit : (m : List ℕ) → Fit m → Fit (rest m)
 unfolding rest
 rest_fit m f = kept_fit m (go_on m).memory (kept_go_on m) f
-
-same_decisions : (m m₁ : List ℕ) → SameEntries m m₁ → (k n : ℕ) → decisions_from m₁ k n ≡ decisions_from m k n
-unfolding decisions_from
-same_decisions m m₁ s k zero = refl
-same_decisions m m₁ s k (suc n) = ap (λ v. applies (k + 1) v ∷ decisions_from m₁ (k + 1) n) (s.held k) ∙ ap (λ x. applies (k + 1) (value_at m k) ∷ x) (same_decisions m m₁ s (k + 1) n)
 
 -- what is to be applied
 abbrev pub applying_now : List ℕ → List Act

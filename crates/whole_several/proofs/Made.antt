@@ -1,7 +1,7 @@
 -- What is due after an event is done, as far as power lasts: letters fly and decisions are applied in turn, and memory stands for the same machine all along.
-use Rattle.std.proofs.Common.{◌≡◌, ℕ, zero, suc, ◌+◌, ◌-◌, ◌<◌, ◌≤◌, Bool, true, false, cond, ◌&&◌, ltb, leb, ◌⊎◌, List, [], ◌∷◌, ◌++◌, length, get_or, take, Some, None, Option, sym, refl, ap, ◌∙◌, subst, inl, inr, arith}
-use Rattle.std.proofs.lemmas.List.{get_or-set_same, length-append}
-use Rattle.std.proofs.lemmas.Bool.{ltb-true, ltb-false, le-leb, eq-eqb, and_from, true≢false}
+use Rattle.std.proofs.Common.{◌≡◌, ℕ, zero, suc, ◌+◌, ◌-◌, ◌<◌, ◌≤◌, Bool, true, false, cond, ◌&&◌, leb, ◌⊎◌, List, [], ◌∷◌, ◌++◌, length, get_or, take, Some, None, Option, sym, refl, ap, ◌∙◌, subst, inl, inr, arith}
+use Rattle.std.proofs.lemmas.List.{length-append}
+use Rattle.std.proofs.lemmas.Bool.{le-leb, eq-eqb, and_from, true≢false}
 use Rattle.raft_log.specs.Layout.{memory_words}
 use Rattle.raft_log.specs.Values.{value_at}
 use Rattle.raft_log.specs.Entries.{commit_index, applied_number, applied_set, decided as decided_number}
@@ -20,13 +20,14 @@ use Rattle.machine.specs.Machine.{Machine, decided}
 use Rattle.machine.specs.Maps.{map_machine}
 use Rattle.join_several.specs.Stands.{lift_log, RoleStands, Stands}
 use Rattle.join_several.proofs.Frames.{role_alike}
-use Rattle.together.specs.House.{pick, every, each, same, Applied, applied, Far, next_ok, may_apply, larger, got_to, all_in_turn, far_after, nth_value, by_order}
+use Rattle.together.specs.House.{every, each, same, Applied, applied, Far, next_ok, may_apply, got_to, all_in_turn, far_after, nth_value, by_order}
 use Rattle.together.specs.Promise.{Act, settle, Step, Letter as Wire, Ran, ran, last_since, all_small}
 use Rattle.together.specs.Machine.{decisions_from}
 use Rattle.together_several.specs.Machine.{acts, letters_from}
 use Rattle.together_several.specs.Entry.{own}
 use Rattle.whole.proofs.Plans.{letters_in, decisions_in, memory_after, stable_after, end_after, first_acts, outcome, end_done}
-use Rattle.whole.proofs.Orders.{same_self}
+use Rattle.together.proofs.Lists.{same_self, larger_left, larger_right, larger_le}
+use Rattle.together.proofs.Decisions.{decisions_many}
 use Rattle.whole_several.proofs.Smalls.{kept_settled, kept_flown, kept_advanced}
 use Rattle.whole_several.proofs.Mails.{Still, still_log, still_commit, still_decided, still_entries, flown_loaded, flown_other, flies_first as mail_first}
 use Rattle.whole_several.proofs.Acts.{Fit, rest, safe, safe_still, safe_applied, safe_since, go_settle, acts_settle, flown_still, flown_mail, flown_same, go_fly, acts_fly, onward, onward_loaded, onward_still, onward_mail, onward_applied, go_apply, acts_apply, acts_done, Goes, settling, flying, applying, resting, goes, own_planned}
@@ -96,27 +97,6 @@ still_stands n h m m₁ y few s low t =
       commit = still_commit m m₁ s ∙ t.commit;
       role = subst (λ (k : Kind). RoleStands n m₁ k y) (sym s.role) (role_alike n m m₁ (loaded m).role y few s.rows t.role);
     }
-
-larger_left : (a b : ℕ) → a ≤ larger a b
-larger_left a b = go (ltb a b) refl
-  where
-    go : (t : Bool) → ltb a b ≡ t → a ≤ pick t b a
-    go true e = omega (arith, ltb-true a b e)
-    go false e = omega arith
-
-larger_right : (a b : ℕ) → b ≤ larger a b
-larger_right a b = go (ltb a b) refl
-  where
-    go : (t : Bool) → ltb a b ≡ t → b ≤ pick t b a
-    go true e = omega arith
-    go false e = omega (arith, ltb-false a b e)
-
-larger_le : (a b n : ℕ) → a ≤ n → b ≤ n → larger a b ≤ n
-larger_le a b n p q = go (ltb a b)
-  where
-    go : (t : Bool) → pick t b a ≤ n
-    go true = q
-    go false = p
 
 -- machine h of n, which has become x; the order o has what x holds for decided
 module _ (n h : ℕ) (few : n ≤ 7) (ps : List (List ℕ)) (x : Machine ℕ) where
@@ -297,11 +277,6 @@ letters_many : (ls : List DueMail) → length (letters_from ls) ≡ length ls
 unfolding letters_from
 letters_many [] = refl
 letters_many (l ∷ ls) = ap suc (letters_many ls)
-
-decisions_many : (m : List ℕ) (k n : ℕ) → length (decisions_from m k n) ≡ n
-unfolding decisions_from
-decisions_many m k zero = refl
-decisions_many m k (suc n) = ap suc (decisions_many m (k + 1) n)
 
 mail_many : (m : List ℕ) (j n : ℕ) → length (mail_from m j n) ≤ n
 unfolding mail_from

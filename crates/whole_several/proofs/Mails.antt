@@ -1,17 +1,15 @@
 -- What the acts leave of a memory as it is, and the letters that are due in it.
-use Rattle.std.proofs.Common.{◌≡◌, ℕ, zero, suc, ◌+◌, ◌-◌, ◌<◌, ◌≤◌, true, false, ◌≢◌, List, [], ◌∷◌, ◌++◌, map, length, get_or, set, Some, None, Option, sym, refl, ap, ◌∙◌, arith}
+use Rattle.std.proofs.Common.{◌≡◌, ℕ, zero, suc, ◌+◌, ◌-◌, ◌<◌, ◌≤◌, true, ◌≢◌, List, [], ◌∷◌, ◌++◌, length, get_or, set, Some, None, Option, sym, refl, ap, ◌∙◌, arith}
 use Rattle.std.proofs.lemmas.List.{length-set, get_or-set_same, get_or-set_other}
-use Rattle.std.specs.List.{range_with_len}
 use Rattle.raft_log.specs.Layout.{memory_words}
-use Rattle.raft_log.specs.Entries.{last_index, commit_index, term_at, number_at, decided, applied_number}
-use Rattle.raft_log.specs.Block.{Entry, log_entry, log_entries}
+use Rattle.raft_log.specs.Entries.{last_index, commit_index, decided, applied_number}
 use Rattle.raft_log.specs.View.{log_of}
 use Rattle.raft_log.proofs.ValueLaws.{at_most_le}
 use Rattle.raft_log.proofs.BlockWrites.{length_log_entries}
 use Rattle.raft_log.proofs.LogFits.{term_small, log_entries_fit}
 use Rattle.raft_log.proofs.LogLaws.{last_most, commit_most, SameEntries, same_entries, same_commit, same_decided, same_applied}
 use Rattle.raft_log.proofs.LogChanges.{same_log}
-use Rattle.messages.specs.Letter.{Letter, append, request_vote, request_vote_response, term_notice, LetterFits}
+use Rattle.messages.specs.Letter.{LetterFits}
 use Rattle.raft.specs.declared.header.Role.{Role}
 use Rattle.raft.specs.declared.header.Machine.{Machine}
 use Rattle.raft.specs.declared.say.Due.{Due}
@@ -20,7 +18,8 @@ use Rattle.raft.specs.Header.{loaded}
 use Rattle.raft.proofs.HeaderLaws.{loaded_alike}
 use Rattle.raft.proofs.Mails.{mails_alike}
 use Rattle.together.specs.Promise.{all_small}
-use Rattle.whole_several.proofs.Smalls.{small_word, small_words, loaded_small}
+use Rattle.together.proofs.Smalls.{small_word, small_words}
+use Rattle.whole_several.proofs.Smalls.{loaded_small}
 use Rattle.raft.specs.Say.{due_of}
 use Rattle.raft.specs.Outbox.{due_to, prev_of, count_of, letter_made, Mail, mail, mail_at, mail_from, mail_due, flown_to}
 

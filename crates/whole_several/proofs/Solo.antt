@@ -25,6 +25,7 @@ use Rattle.together_several.specs.Entry.{own}
 use Rattle.whole_several.proofs.Mails.{no_way}
 use Rattle.whole_several.proofs.Joined.{Joined}
 use Rattle.whole_several.proofs.Moved.{Became, became_now}
+use Rattle.together.proofs.Lists.{or_left, or_right, any_later}
 use Rattle.whole.proofs.Orders.{nth_last}
 use Rattle.whole_several.proofs.Sent.{agrees_self}
 use Rattle.whole_several.proofs.Things.{enough, full_why, taken_became, taken_over}
@@ -36,14 +37,6 @@ use Rattle.whole_several.proofs.Rounds.{rests_since, decided_all, alone, Lives, 
 module _ (ps : List (List ℕ)) (o : List ℕ) (k : ℕ) (v : List ℕ) (is : nth_value ps (get_or o (k - 1) 0) ≡ v) where
   abbrev pub is_it : Applied → Bool
   is_it a = eqb a.index k && same a.value v
-
-  or_right : (b c : Bool) → c ≡ true → or b c ≡ true
-  or_right true c e = refl
-  or_right false c e = e
-
-  or_left : (b c : Bool) → b ≡ true → or b c ≡ true
-  or_left true c e = refl
-  or_left false c e = absurd (false≢true e)
 
   pub last_did : (f : Far) (as₁ : List Applied) → every (by_order ps o) as₁ ≡ true → last_since (far_after f as₁).since ≡ k → last_since f.since ≢ k → any is_it as₁ ≡ true
   unfolding every any far_after last_since
@@ -60,11 +53,6 @@ module _ (ps : List (List ℕ)) (o : List ℕ) (k : ℕ) (v : List ℕ) (is : nt
           let s = (and_parts (leb 1 a.index && leb a.index (length o)) (same a.value (nth_value ps (get_or o (a.index - 1) 0))) b).1 in
           let u : nth_value ps (get_or o (a.index - 1) 0) ≡ v = ap (λ (i : ℕ). nth_value ps (get_or o (i - 1) 0)) q ∙ is in
           and_from (eqb a.index k) (same a.value v) (eq-eqb a.index k q) (subst (λ (y : List ℕ). same a.value y ≡ true) u s)
-
-  pub any_later : (as₁ bs : List Applied) → any is_it bs ≡ true → any is_it (as₁ ++ bs) ≡ true
-  unfolding any
-  any_later [] bs e = e
-  any_later (a ∷ as₁) bs e = or_right (is_it a) (any is_it (as₁ ++ bs)) (any_later as₁ bs e)
 
 -- a memory that stands for a leader leads
 pub leads_memory : (n h : ℕ) (m : List ℕ) (x : Model ℕ) (g : ℕ → List ℕ) → Stands n h m (map_machine g x) → Leads x → (loaded m).role ≡ Leader
@@ -162,7 +150,7 @@ module _ (ps : List (List ℕ)) (fs : List Flown) (k : ℕ) (x : Machine) (ds : 
     -- so it was applied
     applied_it : any (λ a. eqb a.index (many + 1) && same a.value v) (ds ++ args.did) ≡ true
     applied_it =
-        any_later (ps ++ v ∷ []) then.order (many + 1) v order_has ds args.did
+        any_later (is_it (ps ++ v ∷ []) then.order (many + 1) v order_has) ds args.did
         (last_did (ps ++ v ∷ []) then.order (many + 1) v order_has x.how_it_got args.did became.moved.by far_on
         (λ e. omega (arith, leader_since ps fs k x ds w z leads)))
 

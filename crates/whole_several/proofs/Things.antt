@@ -38,8 +38,7 @@ use Rattle.together.specs.Machine.{answer}
 use Rattle.together_several.specs.Machine.{go_on, after_proposal, letter_come, own_step, acts}
 use Rattle.together_several.specs.Entry.{own}
 use Rattle.whole.proofs.Plans.{end_either, runs_event}
-use Rattle.whole.proofs.Orders.{same_self}
-use Rattle.whole_several.proofs.Smalls.{bytes_from}
+use Rattle.together.proofs.Lists.{bytes_from, same_self}
 use Rattle.whole_several.proofs.Steady.{kept_powered, kept_ticked, kept_taken, kept_received}
 use Rattle.whole_several.proofs.Acts.{Fit, rest, go_done, own_planned, own_next}
 use Rattle.whole_several.proofs.Joined.{Agrees, Going, Rests, Safe, Carried, Joined}
