@@ -1,5 +1,5 @@
 -- The machine keeps to its plan: first memory is made safe, then what is decided is applied.
-use Rattle.std.proofs.Common.{◌≡◌, ℕ, zero, suc, ◌+◌, ◌-◌, ◌<◌, ◌≤◌, true, false, cond, List, [], ◌∷◌, ◌++◌, length, Some, None, sym, refl, ap, ◌∙◌, subst, inl, inr, arith}
+use Rattle.std.proofs.Common.{◌≡◌, ℕ, suc, ◌+◌, ◌-◌, ◌<◌, ◌≤◌, true, false, cond, List, [], ◌∷◌, ◌++◌, length, Some, None, sym, refl, ap, ◌∙◌, subst, inl, inr, arith}
 use Rattle.std.proofs.lemmas.Bool.{lt-ltb, le-ltb, cond-true, cond-false, cases_Bool, cases_lt}
 use Rattle.raft_log.specs.Layout.{memory_words}
 use Rattle.raft_log.specs.Values.{value_at}
@@ -14,6 +14,7 @@ use Rattle.solo.proofs.HeaderLaws.{Held, loaded_held, loaded_stored, loaded_alik
 use Rattle.together.specs.Promise.{Act, settle, applies, done, next, Step}
 use Rattle.together.specs.Machine.{answer, apply_due, go_on, own_step, decisions_from, acts}
 use Rattle.together.specs.Entry.{own}
+use Rattle.together.proofs.Decisions.{same_decisions}
 use Rattle.whole.proofs.Plans.{Planned, PlannedAct}
 
 -- memories that the machine runs on
@@ -34,11 +35,6 @@ same_decided m m₁ s = ap (number_at m₁) s.commit ∙ s.entries.numbers (comm
 
 pub stored_log : (m : List ℕ) (x : Machine Role) → SameLog m (stored m x)
 stored_log m x = record { entries = stored_entries m x; commit = stored_commit m x }
-
-same_decisions : (m m₁ : List ℕ) → SameEntries m m₁ → (k n : ℕ) → decisions_from m₁ k n ≡ decisions_from m k n
-unfolding decisions_from
-same_decisions m m₁ s k zero = refl
-same_decisions m m₁ s k (suc n) = ap (λ v. applies (k + 1) v ∷ decisions_from m₁ (k + 1) n) (s.held k) ∙ ap (λ x. applies (k + 1) (value_at m k) ∷ x) (same_decisions m m₁ s (k + 1) n)
 
 pub acts_still : (m : List ℕ) → (loaded m).unsettled ≡ false → acts m ≡ decisions_from m (applied_number m) (decided m - applied_number m)
 unfolding acts

@@ -1,6 +1,6 @@
 -- A machine whose log is what the order says does what is due: it applies in turn, by the order, and what is safe stays right at each act.
-use Rattle.std.proofs.Common.{◌≡◌, ℕ, zero, suc, ◌+◌, ◌-◌, ◌<◌, ◌≤◌, Bool, true, false, cond, ◌&&◌, ltb, leb, ◌⊎◌, List, [], ◌∷◌, ◌++◌, length, get_or, sym, refl, ap, ◌∙◌, subst, inl, inr, arith}
-use Rattle.std.proofs.lemmas.Bool.{ltb-true, ltb-false, le-leb, eq-eqb, and_from, true≢false}
+use Rattle.std.proofs.Common.{◌≡◌, ℕ, zero, suc, ◌+◌, ◌-◌, ◌<◌, ◌≤◌, Bool, true, false, cond, ◌&&◌, leb, ◌⊎◌, List, [], ◌∷◌, ◌++◌, length, get_or, sym, refl, ap, ◌∙◌, subst, inl, inr, arith}
+use Rattle.std.proofs.lemmas.Bool.{le-leb, eq-eqb, and_from, true≢false}
 use Rattle.raft_log.specs.Values.{value_at}
 use Rattle.raft_log.specs.Entries.{commit_index, applied_number, decided}
 use Rattle.raft_log.proofs.LogLaws.{number_most}
@@ -10,14 +10,15 @@ use Rattle.raft.specs.declared.header.Machine.{Machine}
 use Rattle.solo.specs.Header.{loaded}
 use Rattle.raft.specs.Apply.{settled}
 use Rattle.solo.proofs.HeaderLaws.{stored_applied}
-use Rattle.together.specs.House.{pick, every, same, Applied, applied, Far, next_ok, may_apply, larger, got_to, all_in_turn, far_after, nth_value, by_order}
+use Rattle.together.specs.House.{every, same, Applied, applied, Far, next_ok, may_apply, got_to, all_in_turn, far_after, nth_value, by_order}
 use Rattle.together.specs.Promise.{Act, settle, Step, Ran, ran, last_since}
 use Rattle.together.specs.Machine.{decisions_from, acts}
 use Rattle.together.specs.Entry.{own}
 use Rattle.whole.proofs.Plans.{end_done, outcome, memory_after, stable_after, end_after, first_acts, letters_in, decisions_in}
 use Rattle.whole.proofs.Acts.{Long, rest, Goes, settling, applying, resting, goes, safe, safe_loaded, safe_long, stored_log, same_decided, go_settle, acts_settle, onward, onward_loaded, onward_long, onward_log, onward_applied, go_apply, acts_apply, acts_done, own_planned}
 use Rattle.whole.proofs.Holds.{Holds, holds_decided, holds_same}
-use Rattle.whole.proofs.Orders.{same_self}
+use Rattle.together.proofs.Lists.{same_self, larger_left, larger_right, larger_le}
+use Rattle.together.proofs.Decisions.{decisions_many}
 
 -- what at most n acts make of memory m, of which s is stable
 abbrev pub made : ℕ → List ℕ → List ℕ → Ran
@@ -55,11 +56,6 @@ module _ (n : ℕ) (m s : List ℕ) (long : Long m) where
   made_rest u l = ap out_suc (acts_done m long u l)
 
 -- few acts are due
-decisions_many : (m : List ℕ) (k n : ℕ) → length (decisions_from m k n) ≡ n
-unfolding decisions_from
-decisions_many m k zero = refl
-decisions_many m k (suc n) = ap suc (decisions_many m (k + 1) n)
-
 pub acts_few : (m : List ℕ) → length (acts m) ≤ 4097
 unfolding acts
 acts_few m = go (loaded m).unsettled
@@ -67,27 +63,6 @@ acts_few m = go (loaded m).unsettled
     go : (b : Bool) → length (cond b (settle ∷ []) [] ++ decisions_from m (applied_number m) (decided m - applied_number m)) ≤ 4097
     go true = omega (arith, decisions_many m (applied_number m) (decided m - applied_number m), number_most m (commit_index m))
     go false = omega (arith, decisions_many m (applied_number m) (decided m - applied_number m), number_most m (commit_index m))
-
-larger_left : (a b : ℕ) → a ≤ larger a b
-larger_left a b = go (ltb a b) refl
-  where
-    go : (t : Bool) → ltb a b ≡ t → a ≤ pick t b a
-    go true e = omega (arith, ltb-true a b e)
-    go false e = omega arith
-
-larger_right : (a b : ℕ) → b ≤ larger a b
-larger_right a b = go (ltb a b) refl
-  where
-    go : (t : Bool) → ltb a b ≡ t → b ≤ pick t b a
-    go true e = omega arith
-    go false e = omega (arith, ltb-false a b e)
-
-larger_le : (a b n : ℕ) → a ≤ n → b ≤ n → larger a b ≤ n
-larger_le a b n p q = go (ltb a b)
-  where
-    go : (t : Bool) → pick t b a ≤ n
-    go true = q
-    go false = p
 
 -- machine h of many, when at most k terms have begun; the order o of what was proposed, ps
 module _ (many h k : ℕ) (ps : List (List ℕ)) (o : List ℕ) where

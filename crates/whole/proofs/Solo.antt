@@ -22,7 +22,8 @@ use Rattle.whole.proofs.Events.{rests_applied, rests_since, tick_going}
 use Rattle.whole.proofs.Runs.{on_tick, went_tick, ends_tick, went_fine, grown_none, propose_takes, taken_applied, taken_goes, taken_fine, taken_ends, taken_runs, taken_unsettled}
 use Rattle.whole.proofs.Worlds.{enough, Sound, Good, after_good}
 use Rattle.whole.proofs.Nearer.{left, Leads, nearer}
-use Rattle.whole.proofs.Orders.{same_self, nth_last}
+use Rattle.together.proofs.Lists.{or_left, any_later, same_self}
+use Rattle.whole.proofs.Orders.{nth_last}
 
 left_most : (m : List ℕ) → left (loaded m).role ≤ 10
 left_most m = go (loaded m).role
@@ -219,18 +220,9 @@ module _ (ps : List (List ℕ)) (o : List ℕ) where
 
       found : (es : List Applied) → any p (ds ++ applied (length o + 1) v ∷ es) ≡ true
       unfolding any
-      found es = any_at ds
-        where
-          here : p (applied (length o + 1) v) ≡ true
-          here = and_from (eqb (length o + 1) (length o + 1)) (same v v) (eq-eqb (length o + 1) (length o + 1) refl) (same_self v)
-
-          any_at : (xs : List Applied) → any p (xs ++ applied (length o + 1) v ∷ es) ≡ true
-          any_at [] = ap (λ b. or b (any p es)) here
-          any_at (y ∷ ys) = or_any (p y) (any_at ys)
-            where
-              or_any : (b : Bool) → any p (ys ++ applied (length o + 1) v ∷ es) ≡ true → or b (any p (ys ++ applied (length o + 1) v ∷ es)) ≡ true
-              or_any true h = refl
-              or_any false h = h
+      found es =
+          any_later p ds (applied (length o + 1) v ∷ es)
+          (or_left (p (applied (length o + 1) v)) (any p es) (and_from (eqb (length o + 1) (length o + 1)) (same v v) (eq-eqb (length o + 1) (length o + 1) refl) (same_self v)))
 
       abbrev Got : World → Type 0
       Got w = (all_got w (length o + 1) ≡ true) × (any p w.all_did ≡ true)

@@ -9,7 +9,8 @@ use Rattle.whole.proofs.Kept.{WholeKept, CutKept}
 use Rattle.whole.proofs.Holds.{Holds}
 use Rattle.whole.proofs.Going.{Stable, Rests}
 use Rattle.whole.proofs.Runs.{Went, Quiet, went_fine, grown_none, went_power, ends_power, went_tick, ends_tick, went_how_far, shown, went_propose, ends_propose}
-use Rattle.whole.proofs.Orders.{same_self, at_set_same, at_set_other, length_set_machine}
+use Rattle.together.proofs.Lists.{same_self}
+use Rattle.whole.proofs.Orders.{at_set_same, at_set_other, length_set_machine}
 
 -- acts that are enough for any event
 abbrev pub enough : ℕ
