@@ -5,6 +5,10 @@ use Rattle.raft_log.specs.Bytes.{Bytes}
 use Rattle.together.specs.House.{pick, or, every, any, those, same, larger}
 use Rattle.together.specs.Promise.{are_bytes}
 
+-- no number is the one before it
+pub no_way : {A : Type 0} → ◌≡◌ {A = ℕ} 0 1 → A
+no_way e = absurd (omega arith)
+
 pub or_left : (x y : Bool) → x ≡ true → or x y ≡ true
 or_left x y e = ap (λ t. or t y) e
 

@@ -1,10 +1,13 @@
 -- The order as it grows by one, and the list of machines as one of them changes.
-use Rattle.std.proofs.Common.{◌≡◌, ℕ, zero, suc, ◌<◌, true, false, not, eqb, ltb, ◌≢◌, List, [], ◌∷◌, ◌++◌, length, refl, ap, arith}
+use Rattle.std.proofs.Common.{get_or, Bool, ◌≡◌, ℕ, zero, suc, ◌+◌, ◌-◌, ◌*◌, ◌<◌, ◌≤◌, ◌&&◌, leb, ◌∙◌, subst, true, false, not, eqb, ltb, ◌≢◌, List, [], ◌∷◌, ◌++◌, length, refl, ap, arith}
 use Rattle.std.proofs.lemmas.List.{length_push}
-use Rattle.std.proofs.lemmas.Bool.{ltb-true, lt-ltb, eq-eqb, ne_eqb, and_parts, and_from, not-true, not_from_false}
+use Rattle.std.proofs.lemmas.Bool.{le-leb, ltb-true, lt-ltb, eq-eqb, ne_eqb, and_parts, and_from, not-true, not_from_false}
 use Rattle.together.specs.House.{or, every, any, nth_value, all_apart, an_order, begins}
 use Rattle.together.specs.Promise.{Machine, machine_at, set_machine, so_many}
 use Rattle.together.proofs.Lists.{every_weaker, every_append, any_append}
+use Rattle.together.specs.House.{pick, those, same, Applied, applied, by_order}
+use Rattle.together.specs.Promise.{Flown, world, enough_up}
+use Rattle.together.proofs.Lists.{no_way, same_self}
 
 pub nth_front : (ps : List (List ℕ)) (v : List ℕ) (j : ℕ) → j < length ps → nth_value (ps ++ v ∷ []) j ≡ nth_value ps j
 unfolding nth_value
@@ -86,3 +89,31 @@ pub length_so_many : (n : ℕ) (x : Machine) → length (so_many n x) ≡ n
 unfolding so_many
 length_so_many zero x = refl
 length_so_many (suc n) x = ap suc (length_so_many n x)
+
+-- which machine an event is for
+pub machine_here : (ms : List Machine) (n h : ℕ) (u : Bool) → length ms ≡ n → (ltb h (length ms) && u) ≡ true → (h < n) × (u ≡ true)
+machine_here ms n h u e p =
+    let q = and_parts (ltb h (length ms)) u p in
+    (omega (arith, ltb-true h (length ms) q.0), q.1)
+
+-- where there is one machine, more than half are up if it is, and what holds of it holds
+pub up_alone : (x : Machine) (fs : List Flown) (ps : List (List ℕ)) (o : List ℕ) (ds : List Applied) → enough_up (world (x ∷ []) fs ps o ds) ≡ true → x.up ≡ true
+unfolding those
+up_alone x fs ps o ds e = go x.up e
+  where
+    go : (b : Bool) → ltb 1 (2 * length (pick b (x ∷ []) [])) ≡ true → b ≡ true
+    go true e = refl
+    go false e = e
+
+pub one_machine : (P : List Machine → Type 0) (ms : List Machine) → length ms ≡ 1 → ((x : Machine) → P (x ∷ [])) → P ms
+one_machine P [] e f = no_way e
+one_machine P (x ∷ []) e f = f x
+one_machine P (x ∷ y ∷ ms) e f = absurd (let z : suc (suc (length ms)) ≡ 1 = e in omega arith)
+
+-- what the order has next is applied by it
+pub by_next : (ps : List (List ℕ)) (o : List ℕ) (j : ℕ) (v : List ℕ) → j < length o → v ≡ nth_value ps (get_or o j 0) → by_order ps o (applied (j + 1) v) ≡ true
+by_next ps o j v l e =
+    let at : v ≡ nth_value ps (get_or o (j + 1 - 1) 0) = e ∙ ap (λ i. nth_value ps (get_or o i 0)) (let q : j ≡ j + 1 - 1 = omega arith in q) in
+    and_from (leb 1 (j + 1) && leb (j + 1) (length o)) (same v (nth_value ps (get_or o (j + 1 - 1) 0)))
+    (and_from (leb 1 (j + 1)) (leb (j + 1) (length o)) (le-leb 1 (j + 1) (omega arith)) (le-leb (j + 1) (length o) (omega arith)))
+    (subst (λ (x : List ℕ). same v x ≡ true) at (same_self v))

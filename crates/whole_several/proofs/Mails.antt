@@ -22,6 +22,7 @@ use Rattle.together.proofs.Smalls.{small_word, small_words}
 use Rattle.whole_several.proofs.Smalls.{loaded_small}
 use Rattle.raft.specs.Say.{due_of}
 use Rattle.raft.specs.Outbox.{due_to, prev_of, count_of, letter_made, Mail, mail, mail_at, mail_from, mail_due, flown_to}
+use Rattle.together.proofs.Lists.{no_way}
 
 -- WHAT NO ACT CHANGES: who the machine is, its term and role, its rows, its log and what of it is decided
 pub record Still (m m₁ : List ℕ) : Type 0 where
@@ -87,9 +88,6 @@ pub record Flies (m : List ℕ) (j n : ℕ) (l : Mail) (ls : List Mail) : Type 0
   pub least : j ≤ l.to
   pub most : l.to < j + n
   pub left : mail_from (flown_to m l.to) j n ≡ ls
-
-pub no_way : {A : Type 0} → ◌≡◌ {A = ℕ} 0 1 → A
-no_way e = absurd (omega arith)
 
 none_not_some : {A B : Type 0} (x : A) (xs : List A) → [] ≡ x ∷ xs → B
 none_not_some x xs e = no_way cc

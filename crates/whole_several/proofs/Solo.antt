@@ -22,10 +22,9 @@ use Rattle.join_several.specs.Stands.{conf, RoleStands, Stands}
 use Rattle.together.specs.House.{pick, or, every, any, those, same, propose, Applied, Far, got_to, far_after, nth_value, by_order}
 use Rattle.together.specs.Promise.{last_since, are_bytes, said, Ran, runs, Machine, machine_at, set_machine, World, world, Flown, says, to_whom, event_for, before, thing_ran, rounds, enough_up, all_got, most_applied, proposing, Takes, Calm}
 use Rattle.together_several.specs.Entry.{own}
-use Rattle.whole_several.proofs.Mails.{no_way}
 use Rattle.whole_several.proofs.Joined.{Joined}
 use Rattle.whole_several.proofs.Moved.{Became, became_now}
-use Rattle.together.proofs.Lists.{or_left, or_right, any_later}
+use Rattle.together.proofs.Lists.{no_way, or_left, or_right, any_later}
 use Rattle.whole.proofs.Orders.{nth_last}
 use Rattle.whole_several.proofs.Sent.{agrees_self}
 use Rattle.whole_several.proofs.Things.{enough, full_why, taken_became, taken_over}
