@@ -1,5 +1,5 @@
 -- The machine keeps to its plan: first memory is made safe, then what is decided is applied.
-use Rattle.std.proofs.Common.{◌≡◌, ℕ, suc, ◌+◌, ◌-◌, ◌<◌, ◌≤◌, true, false, cond, List, [], ◌∷◌, ◌++◌, length, Some, None, sym, refl, ap, ◌∙◌, subst, inl, inr, arith}
+use Rattle.std.proofs.Common.{◌≡◌, ℕ, suc, ◌+◌, ◌-◌, ◌<◌, ◌≤◌, true, false, cond, List, [], ◌∷◌, ◌++◌, length, Some, None, sym, refl, ap, ◌∙◌, inl, inr, arith}
 use Rattle.std.proofs.lemmas.Bool.{lt-ltb, le-ltb, cond-true, cond-false, cases_Bool, cases_lt}
 use Rattle.raft_log.specs.Layout.{memory_words}
 use Rattle.raft_log.specs.Values.{value_at}
@@ -11,7 +11,7 @@ use Rattle.solo.specs.Header.{loaded, stored}
 use Rattle.solo.specs.Apply.{advanced}
 use Rattle.raft.specs.Apply.{settled, applied_up_to, due}
 use Rattle.solo.proofs.HeaderLaws.{Held, loaded_held, loaded_stored, loaded_alike, length_stored, stored_entries, stored_commit, stored_applied}
-use Rattle.together.specs.Promise.{Act, settle, applies, done, next, Step}
+use Rattle.together.specs.Promise.{settle, applies, done, next}
 use Rattle.together.specs.Machine.{answer, apply_due, go_on, own_step, decisions_from, acts}
 use Rattle.together.specs.Entry.{own}
 use Rattle.together.proofs.Decisions.{same_decisions}

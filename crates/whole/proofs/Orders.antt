@@ -1,5 +1,5 @@
 -- The order as it grows by one, and the list of machines as one of them changes.
-use Rattle.std.proofs.Common.{get_or, Bool, ◌≡◌, ℕ, zero, suc, ◌+◌, ◌-◌, ◌*◌, ◌<◌, ◌≤◌, ◌&&◌, leb, ◌∙◌, subst, true, false, not, eqb, ltb, ◌≢◌, List, [], ◌∷◌, ◌++◌, length, refl, ap, arith}
+use Rattle.std.proofs.Common.{get_or, Bool, ◌≡◌, ℕ, zero, suc, ◌+◌, ◌-◌, ◌*◌, ◌<◌, ◌&&◌, leb, ◌∙◌, subst, true, false, not, eqb, ltb, ◌≢◌, List, [], ◌∷◌, ◌++◌, length, refl, ap, arith}
 use Rattle.std.proofs.lemmas.List.{length_push}
 use Rattle.std.proofs.lemmas.Bool.{le-leb, ltb-true, lt-ltb, eq-eqb, ne_eqb, and_parts, and_from, not-true, not_from_false}
 use Rattle.together.specs.House.{or, every, any, nth_value, all_apart, an_order, begins}

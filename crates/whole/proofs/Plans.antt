@@ -211,6 +211,10 @@ module _ (e : Engine) (m s : List ℕ) (ev : Event) where
       number TooLong = refl
       number Full = refl
 
+-- it did this first
+abbrev pub applies_first : Applied → Ran → Ran
+applies_first a r = ran r.memory r.stable r.flew (a ∷ r.did) r.showed r.end
+
 -- it ended, and showed nothing
 pub quiet_ends : (r : Ran) → r.end ≡ 0 → r.showed ≡ [] → (eqb r.end 0 && none_of r.showed) ≡ true
 unfolding none_of

@@ -9,7 +9,6 @@ use Rattle.solo.specs.declared.header.Role.{Role}
 use Rattle.solo.specs.declared.header.Role.TheVariants.{Follower, Candidate, Leader}
 use Rattle.raft.specs.declared.header.Machine.{Machine}
 use Rattle.raft.specs.declared.proposal.Refusal.{Refusal}
-use Rattle.raft.specs.declared.proposal.Refusal.TheVariants.{TooLong, Full}
 use Rattle.solo.specs.Header.{role_word, elapsed_word, loaded, stored}
 use Rattle.raft.specs.Header.{ticks}
 use Rattle.solo.specs.Power.{powered}
@@ -18,7 +17,7 @@ use Rattle.solo.specs.Election.{led, campaigned, term_entered, next_term_entered
 use Rattle.raft.specs.Header.{older, with_role, in_term}
 use Rattle.raft.specs.Rows.{most_of}
 use Rattle.raft.specs.Election.{owner}
-use Rattle.solo.specs.Proposal.{own_acked, taken, propose_as, proposed}
+use Rattle.solo.specs.Proposal.{own_acked, taken, proposed}
 use Rattle.raft.specs.Proposal.{with_unsettled}
 use Rattle.solo.specs.Apply.{advanced}
 use Rattle.raft.specs.Apply.{settled, applied_up_to, due}
@@ -32,6 +31,8 @@ use Rattle.raft.proofs.HeaderLaws.{older_most}
 use Rattle.together.proofs.Starts.{start_zero}
 use Rattle.together.proofs.Smalls.{limit, Kept, kept, then_kept, kept_set, small_word, flag_small, Small as SmallBy, in_term_small, with_role_small, unsettled_small, settled_small, applied_small}
 use Rattle.together.proofs.KeptLogs.{emptied_kept, appended_kept, raised_kept, applied_kept}
+use Rattle.whole.proofs.Asked.{KeptProposed, kept_asked}
+use Rattle.whole.proofs.Proposed.{asked}
 
 -- a struct whose numbers fit words
 abbrev Small : Machine Role → Type 0
@@ -136,21 +137,8 @@ module _ (m : List ℕ) (x : Machine Role) (small : all_small m ≡ true → Sma
       kept_over _ (with_unsettled x) (kept_own_ack (value_appended m x.term.0 v) (last_index m + 1) (appended_kept m m x.term.0 v (kept m) (λ h. (small h).term) short))
       (λ h. unsettled_small elapsed_word x (small h))
 
--- memory after a proposal that was taken
-abbrev KeptProposed : List ℕ → Result (List ℕ) Refusal → Type 0
-KeptProposed m (Ok m₁) = Kept m m₁
-KeptProposed m (Err why) = Unit {0}
-
-kept_as : (m v : List ℕ) (r : Role) → KeptProposed m (propose_as m (loaded m) r v)
-kept_as m v (Follower e) = tt
-kept_as m v (Candidate e) = tt
-kept_as m v Leader =
-    cond_both (value_fits m (length v)) (Ok (taken m (loaded m) v)) (Err Full) (λ p. KeptProposed m p) (λ f. kept_taken m (loaded m) (loaded_small m) v f) (λ _. tt)
-
 kept_proposed : (m v : List ℕ) → KeptProposed m (proposed m v)
-unfolding proposed
-kept_proposed m v =
-    cond_both (ltb 256 (length v)) (Err TooLong) (propose_as m (loaded m) (loaded m).role v) (λ p. KeptProposed m p) (λ _. tt) (λ _. kept_as m v (loaded m).role)
+kept_proposed m v = kept_asked (λ f. kept_taken m (loaded m) (loaded_small m) v f) (asked m v)
 
 kept_go_on : (m : List ℕ) → Kept m (go_on m).memory
 unfolding go_on advanced

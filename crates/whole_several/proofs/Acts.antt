@@ -13,7 +13,7 @@ use Rattle.raft.specs.Header.{loaded, stored}
 use Rattle.raft.specs.Outbox.{Mail, mail_due, flown_to}
 use Rattle.raft.specs.Apply.{settled, applied_up_to, due, advanced}
 use Rattle.raft.proofs.HeaderLaws.{Held, loaded_held, loaded_stored, loaded_alike, length_stored, stored_other}
-use Rattle.together.specs.Promise.{all_small, are_bytes, Act, flies, settle, applies, done, next, Step}
+use Rattle.together.specs.Promise.{all_small, are_bytes, Act, flies, settle, applies, done, next}
 use Rattle.together.specs.Machine.{answer, decisions_from}
 use Rattle.together_several.specs.Machine.{apply_due, send_due, go_on, own_step, letters_from, acts}
 use Rattle.together_several.specs.Entry.{own}

@@ -8,6 +8,7 @@ pub mod Acts
 pub mod Made
 pub mod Acted
 pub mod Inputs
+pub mod Proposed
 pub mod Steady
 pub mod Things
 pub mod Worlds

@@ -1,7 +1,7 @@
 -- What is due after an event is done, as far as power lasts: letters fly and decisions are applied in turn, and memory stands for the same machine all along.
-use Rattle.std.proofs.Common.{◌≡◌, ℕ, zero, suc, ◌+◌, ◌-◌, ◌<◌, ◌≤◌, Bool, true, false, cond, ◌&&◌, leb, ◌⊎◌, List, [], ◌∷◌, ◌++◌, length, get_or, take, Some, None, Option, sym, refl, ap, ◌∙◌, subst, inl, inr, arith}
+use Rattle.std.proofs.Common.{◌≡◌, ℕ, zero, suc, ◌+◌, ◌-◌, ◌<◌, ◌≤◌, Bool, true, false, cond, ◌⊎◌, List, [], ◌∷◌, ◌++◌, length, get_or, take, Some, None, Option, sym, refl, ap, ◌∙◌, subst, inl, inr, arith}
 use Rattle.std.proofs.lemmas.List.{length-append}
-use Rattle.std.proofs.lemmas.Bool.{le-leb, eq-eqb, and_from, true≢false}
+use Rattle.std.proofs.lemmas.Bool.{eq-eqb, and_from, true≢false}
 use Rattle.raft_log.specs.Layout.{memory_words}
 use Rattle.raft_log.specs.Values.{value_at}
 use Rattle.raft_log.specs.Entries.{commit_index, applied_number, applied_set, decided as decided_number}
@@ -20,13 +20,13 @@ use Rattle.machine.specs.Machine.{Machine, decided}
 use Rattle.machine.specs.Maps.{map_machine}
 use Rattle.join_several.specs.Stands.{lift_log, RoleStands, Stands}
 use Rattle.join_several.proofs.Frames.{role_alike}
-use Rattle.together.specs.House.{every, each, same, Applied, applied, Far, next_ok, may_apply, got_to, all_in_turn, far_after, nth_value, by_order}
+use Rattle.together.specs.House.{every, each, Applied, applied, Far, next_ok, may_apply, got_to, all_in_turn, far_after, nth_value, by_order}
 use Rattle.together.specs.Promise.{Act, settle, Step, Letter as Wire, Ran, ran, last_since, all_small}
 use Rattle.together.specs.Machine.{decisions_from}
 use Rattle.together_several.specs.Machine.{acts, letters_from}
 use Rattle.together_several.specs.Entry.{own}
 use Rattle.whole.proofs.Plans.{letters_in, decisions_in, memory_after, stable_after, end_after, first_acts, outcome, end_done}
-use Rattle.together.proofs.Lists.{same_self, larger_left, larger_right, larger_le}
+use Rattle.together.proofs.Lists.{larger_left, larger_right, larger_le}
 use Rattle.together.proofs.Decisions.{decisions_many}
 use Rattle.whole_several.proofs.Smalls.{kept_settled, kept_flown, kept_advanced}
 use Rattle.whole_several.proofs.Mails.{Still, still_log, still_commit, still_decided, still_entries, flown_loaded, flown_other, flies_first as mail_first}
@@ -34,15 +34,14 @@ use Rattle.whole_several.proofs.Acts.{Fit, rest, safe, safe_still, safe_applied,
 use Rattle.whole_several.proofs.Views.{decided_is, value_is}
 use Rattle.whole_several.proofs.Joined.{Going, Rests}
 use Rattle.whole_several.proofs.Sent.{as_wire, agrees_self}
+use Rattle.whole.proofs.Plans.{applies_first}
+use Rattle.whole.proofs.Orders.{by_next}
 
 -- what at most n acts make of memory m, of which s is stable
 abbrev pub made : ℕ → List ℕ → List ℕ → Ran
 made n m s = outcome own Fit acts rest own_planned n (acts m) m s [] [] []
 
 -- it did this first
-abbrev pub applies_first : Applied → Ran → Ran
-applies_first a r = ran r.memory r.stable r.flew (a ∷ r.did) r.showed r.end
-
 abbrev pub flies_first : Wire → Ran → Ran
 flies_first l r = ran r.memory r.stable (l ∷ r.flew) r.did r.showed r.end
 
@@ -180,11 +179,7 @@ module _ (n h : ℕ) (few : n ≤ 7) (ps : List (List ℕ)) (x : Machine ℕ) wh
           let d = going_decided m f g in
           let k : j < length (decided x) = omega arith in
           let in_order : j < length o = omega (arith, begins_length (decided x) o ordered) in
-          let v : value_at m j ≡ nth_value ps (get_or o (j + 1 - 1) 0) =
-          value_is m t.tidy x (nth_value ps) t.log t.commit j l ∙ (ap (nth_value ps) (begins_at 0 (decided x) o j k ordered) ∙ ap (λ (i : ℕ). nth_value ps (get_or o i 0)) (let q : j ≡ j + 1 - 1 = omega arith in q)) in
-          and_from (leb 1 (j + 1) && leb (j + 1) (length o)) (same (value_at m j) (nth_value ps (get_or o (j + 1 - 1) 0)))
-          (and_from (leb 1 (j + 1)) (leb (j + 1) (length o)) (le-leb 1 (j + 1) (omega arith)) (le-leb (j + 1) (length o) (omega arith)))
-          (subst (λ (z : List ℕ). same (value_at m j) z ≡ true) v (same_self (value_at m j)))
+          by_next ps o j (value_at m j) in_order (value_is m t.tidy x (nth_value ps) t.log t.commit j l ∙ ap (nth_value ps) (begins_at 0 (decided x) o j k ordered))
 
   module _ (o : List ℕ) (ordered : Begins (decided x) o) where
     -- how the acts went: so many letters flew, and what was applied is right

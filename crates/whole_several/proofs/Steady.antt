@@ -22,7 +22,6 @@ use Rattle.raft.specs.declared.header.Machine.{Machine}
 use Rattle.raft.specs.declared.say.Due.{Due}
 use Rattle.raft.specs.declared.say.Due.TheVariants.{Append, RequestVote, TellTerm, Grant, Deny, Accept, Reject}
 use Rattle.raft.specs.declared.proposal.Refusal.{Refusal}
-use Rattle.raft.specs.declared.proposal.Refusal.TheVariants.{TooLong, Full}
 use Rattle.raft.specs.Header.{at_least, ticks, elapsed_word, loaded, stored}
 use Rattle.raft.specs.Rows.{row_put, row_set, only, others, matched_at, next_at, most_of}
 use Rattle.raft.specs.Say.{due_word, said_to_others, said_to, answered}
@@ -32,7 +31,7 @@ use Rattle.raft.specs.Header.{with_role, in_term, older}
 use Rattle.raft.proofs.HeaderLaws.{older_most}
 use Rattle.raft.specs.Election.{owner, rows_begun, led_with_room, led, stood, campaigned, told, followed, term_entered, next_term_entered, reminded, waited, asked_again, tick_as, ticked, wins_now, vote_taken, vote_due}
 use Rattle.raft.specs.Progress.{after, matched_then, next_then, matched_raised, spread, ack_taken, next_below, rejects_next, reject_taken}
-use Rattle.raft.specs.Proposal.{with_unsettled, taken, propose_as, proposed}
+use Rattle.raft.specs.Proposal.{with_unsettled, taken, proposed}
 use Rattle.raft.specs.Receive.{letter_term, heard_from, log_changes, append_taken, append_as, request_as, vote_as, response_as, reject_as, handle_with, handled, old_taken, taken_by_term, another, received_from_another}
 use Rattle.together.specs.House.{propose, how_far}
 use Rattle.together.specs.Promise.{Steady, all_small, are_bytes, Event, on, said, came, tick, next}
@@ -44,6 +43,8 @@ use Rattle.together.proofs.Starts.{start_zero}
 use Rattle.together.proofs.Smalls.{limit, Kept, kept, then_kept, small_word, in_term_small, with_role_small, unsettled_small}
 use Rattle.together.proofs.KeptLogs.{place_most, set_kept, pushed_kept, appended_kept, emptied_kept, raised_kept, applied_kept}
 use Rattle.whole_several.proofs.Smalls.{Small, kept_stored, kept_over, loaded_small, kept_go_on}
+use Rattle.whole.proofs.Asked.{KeptProposed, kept_asked}
+use Rattle.whole_several.proofs.Proposed.{asked}
 
 due_small : (d : Due) → due_word d < limit
 due_small Append = omega arith
@@ -385,21 +386,8 @@ unfolding received_from_another
 kept_received m f l g =
     cond_both (another (loaded m) f) (taken_by_term m (loaded m) f l) m (λ y. Kept m y) (λ _. by_term_kept m m (loaded m) f l (kept m) (loaded_small m) g) (λ _. kept m)
 
--- memory after a proposal that was taken
-abbrev pub KeptProposed : List ℕ → Result (List ℕ) Refusal → Type 0
-KeptProposed m (Ok m₁) = Kept m m₁
-KeptProposed m (Err why) = Unit {0}
-
-kept_as : (m v : List ℕ) (r : Role) → KeptProposed m (propose_as m (loaded m) r v)
-kept_as m v (Follower e heard) = tt
-kept_as m v (Candidate e) = tt
-kept_as m v Leader =
-    cond_both (value_fits m (length v)) (Ok (taken m (loaded m) v)) (Err Full) (λ p. KeptProposed m p) (λ f. kept_taken m v f) (λ _. tt)
-
 pub kept_proposed : (m v : List ℕ) → KeptProposed m (proposed m v)
-unfolding proposed
-kept_proposed m v =
-    cond_both (ltb 256 (length v)) (Err TooLong) (propose_as m (loaded m) (loaded m).role v) (λ p. KeptProposed m p) (λ _. tt) (λ _. kept_as m v (loaded m).role)
+kept_proposed m v = kept_asked (λ f. kept_taken m v f) (asked m v)
 
 kept_after : (m : List ℕ) (p : Result (List ℕ) Refusal) → KeptProposed m p → Kept m (after_proposal m p).memory
 kept_after m (Ok m₁) k = then_kept k (kept_go_on m₁)

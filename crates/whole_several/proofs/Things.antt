@@ -1,19 +1,16 @@
 -- Whatever happens to a machine is right, whole or cut short, and leaves the world joined with one of the theory.
-use Rattle.std.proofs.Common.{◌≡◌, ℕ, zero, suc, ◌+◌, ◌<◌, ◌≤◌, Bool, true, false, cond, not, ◌&&◌, eqb, ltb, leb, ◌≢◌, ◌⊎◌, List, [], ◌∷◌, ◌++◌, length, take, Ok, Err, Result, sym, refl, ap, ◌∙◌, subst, inl, inr, arith}
+use Rattle.std.proofs.Common.{◌≡◌, ℕ, zero, suc, ◌+◌, ◌<◌, ◌≤◌, Bool, true, false, not, ◌&&◌, eqb, ltb, leb, ◌≢◌, ◌⊎◌, List, [], ◌∷◌, ◌++◌, length, take, Ok, Err, Result, sym, refl, ap, ◌∙◌, subst, inl, inr, arith}
 use mathlib.Core.Option.{Option as Maybe, none, some}
 use Rattle.std.proofs.lemmas.List.{length_push, length-map, append-nil}
-use Rattle.std.proofs.lemmas.Bool.{ltb-true, ltb-false, lt-ltb, le-ltb, le-leb, leb-true, leb-false, eq-eqb, and_parts, and_from, and_cases, cases_Bool, cond-true, cond-false, not-true, false≢true}
+use Rattle.std.proofs.lemmas.Bool.{ltb-true, lt-ltb, le-ltb, le-leb, leb-true, eq-eqb, and_parts, and_from, cases_Bool, cond-true, cond-false, not-true, false≢true}
 use Rattle.raft_log.specs.Entries.{last_index, applied_number, values, value_fits, decided as decided_number}
 use Rattle.messages.specs.Letter.{Letter as Message, letter_of}
-use Rattle.raft.specs.declared.header.Role.{Role}
-use Rattle.raft.specs.declared.header.Role.TheVariants.{Follower, Candidate, Leader}
-use Rattle.raft.specs.declared.header.Machine.{Machine as Header}
+use Rattle.raft.specs.declared.header.Role.TheVariants.{Leader}
 use Rattle.raft.specs.declared.proposal.Refusal.{Refusal}
-use Rattle.raft.specs.declared.proposal.Refusal.TheVariants.{NotNow, TooLong, Full}
 use Rattle.raft.specs.Header.{loaded}
 use Rattle.raft.specs.Power.{belongs, powered}
 use Rattle.raft.specs.Election.{ticked}
-use Rattle.raft.specs.Proposal.{refusal_number, taken, propose_as, proposed}
+use Rattle.raft.specs.Proposal.{refusal_number, taken, proposed}
 use Rattle.raft.specs.Receive.{another, taken_by_term, received_from_another}
 use Rattle.raft.specs.Outbox.{Mail as DueMail, mail_due}
 use Rattle.protocol.specs.Lists.{upd, In, All, Begins}
@@ -32,8 +29,8 @@ use Rattle.join_several.specs.Does.{Does}
 use Rattle.join_several.proofs.Outs.{log_long}
 use Rattle.join_several.proofs.Powers.{Powers, powered_stands}
 use Rattle.join_several.proofs.Proposals.{values_few}
-use Rattle.together.specs.House.{pick, or, every, each, none_of, same, propose, how_far, Far, far, next_ok, all_in_turn, far_after, nth_value}
-use Rattle.together.specs.Promise.{Event, on, said, came, tick, next, shows, done, refused, Step, Letter as Wire, Ran, ran, runs, one_act, last_since, are_bytes, all_small, Machine, machine_at, Flown, flown, flown_at, World, Thing, power, says, delivers, ticks, to_whom, event_for, before, thing_ran, with_proposal, may_end}
+use Rattle.together.specs.House.{every, each, none_of, same, propose, how_far, Far, far, next_ok, all_in_turn, far_after, nth_value}
+use Rattle.together.specs.Promise.{Event, on, said, came, tick, next, shows, done, Letter as Wire, Ran, ran, runs, last_since, are_bytes, all_small, Machine, machine_at, Flown, flown, flown_at, World, Thing, power, says, delivers, ticks, to_whom, event_for, before, thing_ran, with_proposal, may_end}
 use Rattle.together.specs.Machine.{answer}
 use Rattle.together_several.specs.Machine.{go_on, after_proposal, letter_come, own_step, acts}
 use Rattle.together_several.specs.Entry.{own}
@@ -48,14 +45,13 @@ use Rattle.whole_several.proofs.Made.{made, made_rest, made_ends, going_fit, Fin
 use Rattle.whole_several.proofs.Acted.{cut_moved, whole_became}
 use Rattle.whole_several.proofs.Inputs.{tick_does, propose_does, letter_does}
 use Rattle.whole_several.proofs.Views.{decided_is}
+use Rattle.whole.proofs.Plans.{run_none, shown_cut, shown_whole, refused_run, quiet_ends}
+use Rattle.whole.proofs.Asked.{turned_away, taken_in, full_by, ends_as, refused_ends, with_it, refused_counts}
+use Rattle.whole_several.proofs.Proposed.{Asks, asked}
 
 -- acts that are enough for any event
 abbrev pub enough : ℕ
 enough = suc 4105
-
-pub run_none : (m s : List ℕ) (ev : Event) → runs 0 own m s ev [] [] [] ≡ ran m s [] [] [] 1000
-unfolding runs
-run_none m s ev = refl
 
 -- an event that changes memory to m₁ and goes on
 pub run_made : (i : ℕ) (ev : Event) (m m₁ s : List ℕ) → Fit m₁ → own.step m ev ≡ own.step m₁ next → runs (suc i) own m s ev [] [] [] ≡ made (suc i) m₁ s
@@ -153,43 +149,6 @@ pub record RightThing (n k : ℕ) (v : World) (w : Theory) (t : Thing) : Type 0 
   pub ends : may_end v t (thing_ran enough own v t) ≡ true
   pub cut : (i : ℕ) → Moved n k (to_whom v t) (with_proposal v.proposed t (thing_ran i own v t).end) (before t (machine_at v.machines (to_whom v t))).how_it_got w (thing_ran i own v t) false
 
--- why a proposal is refused
-abbrev pub Why : List ℕ → ℕ → Refusal → Type 0
-Why m long NotNow = long ≤ 256
-Why m long TooLong = 256 < long
-Why m long Full = (long ≤ 256) × (value_fits m long ≡ false)
-
--- what becomes of a proposal
-pub data Asked (m v : List ℕ) : Type 0 where
-  turned_away : (why : Refusal) → Why m (length v) why → proposed m v ≡ Err why → Asked m v
-  taken_in : (loaded m).role ≡ Leader → value_fits m (length v) ≡ true → proposed m v ≡ Ok (taken m (loaded m) v) → Asked m v
-
-pub asked : (m v : List ℕ) → Asked m v
-unfolding proposed
-asked m v = size (ltb 256 (length v)) refl
-  where
-    x : Header Role
-    x = loaded m
-
-    answers : Bool → Role → Result (List ℕ) Refusal
-    answers b role = cond b (Err TooLong) (propose_as m x role v)
-
-    room : (b : Bool) → value_fits m (length v) ≡ b → ltb 256 (length v) ≡ false → x.role ≡ Leader → Asked m v
-    room true f short l =
-        taken_in l f (ap (λ t. answers t x.role) short ∙ (ap (λ t. propose_as m x t v) l ∙ cond-true (value_fits m (length v)) (Ok (taken m x v)) (Err Full) f))
-    room false f short l =
-        turned_away Full (ltb-false 256 (length v) short, f)
-        (ap (λ t. answers t x.role) short ∙ (ap (λ t. propose_as m x t v) l ∙ cond-false (value_fits m (length v)) (Ok (taken m x v)) (Err Full) f))
-
-    role : (t : Role) → x.role ≡ t → ltb 256 (length v) ≡ false → Asked m v
-    role (Follower e b) l short = turned_away NotNow (ltb-false 256 (length v) short) (ap (λ t. answers t x.role) short ∙ ap (λ t. propose_as m x t v) l)
-    role (Candidate e) l short = turned_away NotNow (ltb-false 256 (length v) short) (ap (λ t. answers t x.role) short ∙ ap (λ t. propose_as m x t v) l)
-    role Leader l short = room (value_fits m (length v)) refl short l
-
-    size : (b : Bool) → ltb 256 (length v) ≡ b → Asked m v
-    size true e = turned_away TooLong (ltb-true 256 (length v) e) (ap (λ t. answers t x.role) e)
-    size false e = role x.role refl e
-
 -- machine h of the world, which is up
 module _ (n k : ℕ) (v : World) (w : Theory) (j : Joined n k v w) (low : k ≤ 8589934592) (h : ℕ) (there : h < n) (is_up : (machine_at v.machines h).up ≡ true) where
   abbrev x : Machine
@@ -267,10 +226,6 @@ module _ (n k : ℕ) (v : World) (w : Theory) (j : Joined n k v w) (low : k ≤ 
   pub tick_became : Became n k h ps x.how_it_got w (runs enough own x.memory x.stable tick [] [] []) (event model_tick)
   tick_became = event_became (event model_tick) tt (ticked x.memory) tick (on_tick x.memory) ps nothing_later j.proposals tick_so tick_small
 
-  quiet_ends : (r : Ran) → r.end ≡ 0 → r.showed ≡ [] → (eqb r.end 0 && none_of r.showed) ≡ true
-  unfolding none_of
-  quiet_ends r e q = rw (e, q)
-
   pub tick_right : RightThing n k v w (ticks h)
   unfolding to_whom event_for before with_proposal may_end
   tick_right =
@@ -284,7 +239,7 @@ module _ (n k : ℕ) (v : World) (w : Theory) (j : Joined n k v w) (low : k ≤ 
       }
     where
       cuts : (i : ℕ) → Moved n k h ps x.how_it_got w (runs i own x.memory x.stable tick [] [] []) false
-      cuts zero = subst (λ (r : Ran). Moved n k h ps x.how_it_got w r false) (sym (run_none x.memory x.stable tick)) (stopped x.memory [] 1000)
+      cuts zero = subst (λ (r : Ran). Moved n k h ps x.how_it_got w r false) (sym (run_none own x.memory x.stable tick)) (stopped x.memory [] 1000)
       cuts (suc i) = event_cut (event model_tick) tt (ticked x.memory) tick (on_tick x.memory) ps nothing_later j.proposals tick_so tick_small i
 
   -- A LETTER, which is one on the wire
@@ -348,26 +303,18 @@ module _ (n k : ℕ) (v : World) (w : Theory) (j : Joined n k v w) (low : k ≤ 
     letter_goes = elim (cases_Bool (another (loaded x.memory) f)) [ inl is ↦ taken_up is | inr ne ↦ ignored ne ]
 
     letter_cuts : (a : ℕ) → Moved n k h ps x.how_it_got w (runs a own x.memory x.stable (came f bs) [] [] []) false
-    letter_cuts zero = subst (λ (r : Ran). Moved n k h ps x.how_it_got w r false) (sym (run_none x.memory x.stable (came f bs))) (stopped x.memory [] 1000)
+    letter_cuts zero = subst (λ (r : Ran). Moved n k h ps x.how_it_got w r false) (sym (run_none own x.memory x.stable (came f bs))) (stopped x.memory [] 1000)
     letter_cuts (suc a) = letter_goes.cut a
 
     letter_ends : (eqb (runs enough own x.memory x.stable (came f bs) [] [] []).end 0 && none_of (runs enough own x.memory x.stable (came f bs) [] [] []).showed) ≡ true
     letter_ends = quiet_ends (runs enough own x.memory x.stable (came f bs) [] [] []) letter_goes.over letter_goes.silent
 
   -- HOW FAR
-  abbrev acting : ℕ → List ℕ → Step → Ran
-  acting a ss y = one_act (λ m₂ s₁ fs₁ ds₂ ss₁. runs a own m₂ s₁ next fs₁ ds₂ ss₁) x.stable [] [] ss y.memory y.act
-
   still_now : own.step x.memory next ≡ answer x.memory done
   still_now = own_next x.memory ∙ go_done x.memory fit_now.long at_rest.quiet.settled at_rest.quiet.none_due at_rest.all
 
-  shown_cut : runs 1 own x.memory x.stable (said how_far) [] [] [] ≡ ran x.memory x.stable [] [] ((loaded x.memory).since.0 ∷ []) 1000
-  unfolding runs one_act
-  shown_cut = ap (acting 0 []) (on_how_far x.memory)
-
   shown : (a : ℕ) → runs (suc (suc a)) own x.memory x.stable (said how_far) [] [] [] ≡ ran x.memory x.stable [] [] ((loaded x.memory).since.0 ∷ []) 0
-  unfolding runs one_act
-  shown a = ap (acting (suc a) []) (on_how_far x.memory) ∙ ap (acting a ((loaded x.memory).since.0 ∷ [])) still_now
+  shown a = shown_whole own x.memory x.stable (said how_far) (loaded x.memory).since.0 a (on_how_far x.memory) still_now
 
   pub how_far_right : RightThing n k v w (says h how_far)
   unfolding to_whom event_for before with_proposal may_end none_of
@@ -382,8 +329,8 @@ module _ (n k : ℕ) (v : World) (w : Theory) (j : Joined n k v w) (low : k ≤ 
       }
     where
       cuts : (i : ℕ) → Moved n k h ps x.how_it_got w (runs i own x.memory x.stable (said how_far) [] [] []) false
-      cuts zero = subst (λ (r : Ran). Moved n k h ps x.how_it_got w r false) (sym (run_none x.memory x.stable (said how_far))) (stopped x.memory [] 1000)
-      cuts (suc zero) = subst (λ (r : Ran). Moved n k h ps x.how_it_got w r false) (sym shown_cut) (stopped x.memory ((loaded x.memory).since.0 ∷ []) 1000)
+      cuts zero = subst (λ (r : Ran). Moved n k h ps x.how_it_got w r false) (sym (run_none own x.memory x.stable (said how_far))) (stopped x.memory [] 1000)
+      cuts (suc zero) = subst (λ (r : Ran). Moved n k h ps x.how_it_got w r false) (sym (shown_cut own x.memory x.stable (said how_far) (loaded x.memory).since.0 (on_how_far x.memory))) (stopped x.memory ((loaded x.memory).since.0 ∷ []) 1000)
       cuts (suc (suc a)) = subst (λ (r : Ran). Moved n k h ps x.how_it_got w r false) (sym (shown a)) (stopped x.memory ((loaded x.memory).since.0 ∷ []) 0)
 
   -- A PROPOSAL
@@ -391,11 +338,8 @@ module _ (n k : ℕ) (v : World) (w : Theory) (j : Joined n k v w) (low : k ≤ 
     abbrev ps₁ : List (List ℕ)
     ps₁ = ps ++ q ∷ []
 
-    abbrev with_it : ℕ → List (List ℕ)
-    with_it e = pick (or (eqb e 0) (eqb e 1000)) (ps ++ q ∷ []) ps
-
     abbrev GoesSo : Ran → Bool → Type 0
-    GoesSo r b = Moved n k h (with_it r.end) x.how_it_got w r b
+    GoesSo r b = Moved n k h (with_it ps q r.end) x.how_it_got w r b
 
     more : (g : ℕ → List ℕ) → Agrees g ps₁ → Agrees g ps
     more g a = agrees_push ps q g a
@@ -410,23 +354,12 @@ module _ (n k : ℕ) (v : World) (w : Theory) (j : Joined n k v w) (low : k ≤ 
     -- refused: nothing has changed
     module _ (why : Refusal) (e : proposed x.memory q ≡ Err why) where
       refused_runs : (a : ℕ) → runs (suc a) own x.memory x.stable (said (propose q)) [] [] [] ≡ ran x.memory x.stable [] [] [] (refusal_number why)
-      unfolding runs one_act
-      refused_runs a = ap (acting a []) (on_propose x.memory q (Err why) e) ∙ number why
-        where
-          number : (why : Refusal) → acting a [] (answer x.memory (refused (refusal_number why))) ≡ ran x.memory x.stable [] [] [] (refusal_number why)
-          number NotNow = refl
-          number TooLong = refl
-          number Full = refl
-
-      not_counted : (why : Refusal) → with_it (refusal_number why) ≡ ps
-      not_counted NotNow = refl
-      not_counted TooLong = refl
-      not_counted Full = refl
+      refused_runs a = refused_run own x.memory x.stable (said (propose q)) why a (on_propose x.memory q (Err why) e)
 
       refused_so : (b : Bool) → Moved n k h ps x.how_it_got w (ran x.memory x.stable [] [] [] (refusal_number why)) b → (a : ℕ) → GoesSo (runs (suc a) own x.memory x.stable (said (propose q)) [] [] []) b
       refused_so b z a =
           subst (λ (r : Ran). GoesSo r b) (sym (refused_runs a))
-          (subst (λ (y : List (List ℕ)). Moved n k h y x.how_it_got w (ran x.memory x.stable [] [] [] (refusal_number why)) b) (sym (not_counted why)) z)
+          (subst (λ (y : List (List ℕ)). Moved n k h y x.how_it_got w (ran x.memory x.stable [] [] [] (refusal_number why)) b) (sym (refused_counts ps q why)) z)
 
     -- taken
     module _ (leads : (loaded x.memory).role ≡ Leader) (fits : value_fits x.memory (length q) ≡ true) (e : proposed x.memory q ≡ Ok (taken x.memory (loaded x.memory) q)) where
@@ -442,9 +375,9 @@ module _ (n k : ℕ) (v : World) (w : Theory) (j : Joined n k v w) (low : k ≤ 
       take_small : all_small m₂ ≡ true
       take_small = (kept_taken x.memory q fits).small at_rest.going.small
 
-      counted : (r : Ran) → (r.end ≡ 0) ⊎ (r.end ≡ 1000) → with_it r.end ≡ ps₁
-      counted r (inl z) = ap with_it z
-      counted r (inr z) = ap with_it z
+      counted : (r : Ran) → (r.end ≡ 0) ⊎ (r.end ≡ 1000) → with_it ps q r.end ≡ ps₁
+      counted r (inl z) = ap (with_it ps q) z
+      counted r (inr z) = ap (with_it ps q) z
 
       pub taken_over : (runs enough own x.memory x.stable (said (propose q)) [] [] []).end ≡ 0
       taken_over = event_ended (proposal w.proposals) refl m₂ (said (propose q)) takes ps₁ more one_more take_so take_small
@@ -482,36 +415,24 @@ module _ (n k : ℕ) (v : World) (w : Theory) (j : Joined n k v w) (low : k ≤ 
         let c = counts (conf n) w h (w.memory h) j.reach (inl (up, refl)) in
         let long : last_index x.memory ≡ length (w.memory h).log =
         log_long x.memory (map_machine (nth_value ps) (w.memory h)) t.term t.log ∙ log_length (nth_value ps) (w.memory h).log in
-        elim (and_cases (leb (length q) 256) (ltb (last_index x.memory) 8193 && ltb (values x.memory) 4096) f) [
-          | inl a ↦ absurd (omega (arith, leb-false (length q) 256 a))
-          | inr b ↦
-              elim (and_cases (ltb (last_index x.memory) 8193) (ltb (values x.memory) 4096) b) [
-                | inl d ↦ omega (arith, ltb-false (last_index x.memory) 8193 d, c.0, c.1, j.proposals)
-                | inr d ↦ omega (arith, ltb-false (values x.memory) 4096 d, c.0, j.proposals)
-              ]
+        elim (full_by x.memory (length q) f l) [
+          | inl d ↦ omega (arith, c.0, c.1, j.proposals)
+          | inr d ↦ omega (arith, c.0, j.proposals)
         ]
-
-    abbrev may_end_so : ℕ → Bool
-    may_end_so e = pick (ltb 256 (length q)) (eqb e 6) (or (eqb e 0) (or (eqb e 3) (eqb e 7 && leb 4096 (length ps))))
-
-    refused_ends : (why : Refusal) → Why x.memory (length q) why → may_end_so (refusal_number why) ≡ true
-    refused_ends NotNow z = rw (le-ltb 256 (length q) z)
-    refused_ends TooLong z = rw (lt-ltb 256 (length q) z)
-    refused_ends Full z = rw (le-ltb 256 (length q) z.0, le-leb 4096 (length ps) (full_why z.1 z.0))
 
     -- how it goes
     record ProposalGoes : Type 0 where
       whole : GoesSo (runs enough own x.memory x.stable (said (propose q)) [] [] []) true
       silent : (runs enough own x.memory x.stable (said (propose q)) [] [] []).showed ≡ []
-      may : may_end_so (runs enough own x.memory x.stable (said (propose q)) [] [] []).end ≡ true
+      may : ends_as (length q) (length ps) (runs enough own x.memory x.stable (said (propose q)) [] [] []).end ≡ true
       cut : (a : ℕ) → GoesSo (runs (suc a) own x.memory x.stable (said (propose q)) [] [] []) false
 
-    proposal_goes : Asked x.memory q → ProposalGoes
+    proposal_goes : Asks x.memory q → ProposalGoes
     proposal_goes (turned_away why z e) =
         record {
           whole = refused_so why e true (stayed [] (refusal_number why)) 4105;
           silent = ap (λ (r : Ran). r.showed) (refused_runs why e 4105);
-          may = subst (λ (r : Ran). may_end_so r.end ≡ true) (sym (refused_runs why e 4105)) (refused_ends why z);
+          may = subst (λ (r : Ran). ends_as (length q) (length ps) r.end ≡ true) (sym (refused_runs why e 4105)) (refused_ends x.memory (length q) (length ps) full_why why z);
           cut = refused_so why e false (stopped x.memory [] (refusal_number why));
         }
     proposal_goes (taken_in l f e) =
@@ -525,7 +446,7 @@ module _ (n k : ℕ) (v : World) (w : Theory) (j : Joined n k v w) (low : k ≤ 
         record { here = there; whole = z.whole; ends = rw z.silent z.may; cut = cuts }
       where
         cuts : (a : ℕ) → GoesSo (runs a own x.memory x.stable (said (propose q)) [] [] []) false
-        cuts zero = subst (λ (r : Ran). GoesSo r false) (sym (run_none x.memory x.stable (said (propose q)))) cut_none
+        cuts zero = subst (λ (r : Ran). GoesSo r false) (sym (run_none own x.memory x.stable (said (propose q)))) cut_none
         cuts (suc a) = (proposal_goes (asked x.memory q)).cut a
 
 -- A LETTER on the wire comes to the machine that it was sent to
@@ -714,7 +635,7 @@ module _ (n k : ℕ) (v : World) (w : Theory) (j : Joined n k v w) (h : ℕ) (th
       }
 
   power_cuts : (i : ℕ) → Moved n k h qs f₀ w (runs i own s s (on h n) [] [] []) false
-  power_cuts zero = subst (λ (r : Ran). Moved n k h qs f₀ w r false) (sym (run_none s s (on h n))) power_none
+  power_cuts zero = subst (λ (r : Ran). Moved n k h qs f₀ w r false) (sym (run_none own s s (on h n))) power_none
   power_cuts (suc i) = subst (λ (r : Ran). Moved n k h qs f₀ w r false) (sym (power_runs i)) (power_cut i)
 
   pub power_right : RightThing n k v w (power h)
