@@ -22,7 +22,7 @@ use Rattle.whole_several.specs.History.{enough, happens, history, first_world, a
 use Rattle.whole_several.proofs.Joined.{Agrees, Carried, Joined}
 use Rattle.whole_several.proofs.Moved.{Moved, agrees_later, moved_joined}
 use Rattle.whole_several.proofs.Sent.{agrees_self}
-use Rattle.whole_several.proofs.Things.{terms_later}
+use Rattle.whole_several.proofs.Events.{terms_later}
 use Rattle.whole_several.proofs.Worlds.{thing_right}
 use Rattle.whole_several.proofs.Main.{first_joined}
 

@@ -25,7 +25,8 @@ use Rattle.whole_several.proofs.Moved.{Became, became_now}
 use Rattle.together.proofs.Lists.{or_left, or_right, any_later}
 use Rattle.whole.proofs.Orders.{nth_last}
 use Rattle.whole_several.proofs.Sent.{agrees_self}
-use Rattle.whole_several.proofs.Things.{enough, full_why, taken_became, taken_over}
+use Rattle.whole_several.proofs.Events.{enough}
+use Rattle.whole_several.proofs.Commands.{full_why, taken_became, taken_over}
 use Rattle.whole_several.proofs.Lone.{is_leader, Leads}
 use Rattle.whole_several.proofs.Worlds.{Good}
 use Rattle.whole_several.proofs.Rounds.{rests_since, decided_all, alone, Lives, rests, model_up, within_log, most_of_one, leader_since, order_within, waits}

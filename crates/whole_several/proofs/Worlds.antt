@@ -8,7 +8,10 @@ use Rattle.together_several.specs.Entry.{own}
 use Rattle.whole.proofs.Kept.{WholeKept, CutKept}
 use Rattle.whole_several.proofs.Joined.{Joined}
 use Rattle.whole_several.proofs.Moved.{moved_right, moved_joined}
-use Rattle.whole_several.proofs.Things.{enough, RightThing, tick_right, how_far_right, propose_right, letter_right, power_right}
+use Rattle.whole_several.proofs.Events.{enough, RightThing, tick_right}
+use Rattle.whole_several.proofs.Commands.{how_far_right, propose_right}
+use Rattle.whole_several.proofs.Letters.{letter_right}
+use Rattle.whole_several.proofs.Powers.{power_right}
 use Rattle.whole.proofs.Orders.{machine_here}
 
 -- THE INVARIANT: the world is joined with a world of the theory
