@@ -1,16 +1,15 @@
 -- Memory never grows, nor do its numbers beyond 64 bits, whatever the event.
-use Rattle.std.proofs.Common.{◌≡◌, ℕ, zero, suc, ◌+◌, ◌-◌, ◌<◌, ◌≤◌, max, Bool, true, false, cond, not, ◌&&◌, ◌||◌, eqb, ltb, leb, List, [], ◌∷◌, length, drop, set, Some, None, Ok, Err, Option, Result, refl, arith, lit≤}
+use Rattle.std.proofs.Common.{◌≡◌, ℕ, zero, suc, ◌+◌, ◌-◌, ◌<◌, ◌≤◌, Bool, true, false, cond, not, ◌&&◌, ◌||◌, eqb, ltb, leb, List, length, set, Ok, Err, Result, refl, arith, lit≤}
 use mathlib.Core.Option.{Option as Maybe, none, some}
 use Rattle.std.proofs.lemmas.Bool.{ltb-true, leb-true, and_parts, cond_both}
-use Rattle.raft_log.specs.declared.Index.{Index}
 use Rattle.raft_log.specs.Layout.{at_most}
-use Rattle.raft_log.specs.Entries.{last_index, commit_index, applied_number, values, value_fits, value_appended, empty_place, empty_fits, empty_appended, commit_raised, applied_set, term_at, index}
-use Rattle.raft_log.specs.Block.{Entry, ContentFits, EntriesFit}
+use Rattle.raft_log.specs.Entries.{last_index, commit_index, applied_number, values, value_fits, value_appended, empty_place, empty_fits, empty_appended, commit_raised, applied_set, term_at}
+use Rattle.raft_log.specs.Block.{Entry, EntriesFit}
 use Rattle.raft_log.specs.View.{log_of, term_before}
-use Rattle.raft_log.specs.Conflict.{has_term, conflict, is_up_to_date}
-use Rattle.raft_log.specs.Accept.{truncated, content_taken, entry_taken, entries_taken, merged_at, merged, merges, commit_noted, accepts, accepted, hint}
+use Rattle.raft_log.specs.Conflict.{has_term, is_up_to_date}
+use Rattle.raft_log.specs.Accept.{merges, accepts, accepted, hint}
 use Rattle.raft_log.proofs.ValueLaws.{at_most_le}
-use Rattle.raft_log.proofs.LogLaws.{last_most, commit_most, applied_most, number_most}
+use Rattle.raft_log.proofs.LogLaws.{last_most, applied_most}
 use Rattle.raft_log.proofs.ViewLaws.{length_log}
 use Rattle.raft_log.proofs.MergeLaws.{by_term_most}
 use Rattle.messages.specs.Letter.{Letter, append, append_response, append_reject, request_vote, request_vote_response, term_notice, letter_of, LetterFits}
@@ -41,7 +40,7 @@ use Rattle.together.proofs.Lengths.{length_start}
 use Rattle.together.proofs.Lists.{bytes_from}
 use Rattle.together.proofs.Starts.{start_zero}
 use Rattle.together.proofs.Smalls.{limit, Kept, kept, then_kept, small_word, in_term_small, with_role_small, unsettled_small}
-use Rattle.together.proofs.KeptLogs.{place_most, set_kept, pushed_kept, appended_kept, emptied_kept, raised_kept, applied_kept}
+use Rattle.together.proofs.KeptLogs.{accepted_kept, place_most, set_kept, appended_kept, emptied_kept, raised_kept, applied_kept}
 use Rattle.whole_several.proofs.Smalls.{Small, kept_stored, kept_over, loaded_small, kept_go_on}
 use Rattle.whole.proofs.Asked.{KeptProposed, kept_asked}
 use Rattle.whole_several.proofs.Proposed.{asked}
@@ -60,22 +59,6 @@ at_least_small a c p q = cond_both (ltb c a) a c (λ x. x < limit) (λ _. p) (λ
 
 after_small : (k : ℕ) → k < limit → after k < limit
 after_small k l = cond_both (ltb k 18446744073709551615) (k + 1) k (λ x. x < limit) (λ e. omega (arith, ltb-true k 18446744073709551615 e)) (λ _. l)
-
-fit_drop : (n : ℕ) (es : List Entry) → EntriesFit es → EntriesFit (drop n es)
-fit_drop zero es f = f
-fit_drop (suc n) [] f = f
-fit_drop (suc n) (e ∷ es) f = fit_drop n es f.2
-
--- where logs part is among the entries that are compared
-abbrev AtMostIndex : Option Index → ℕ → Type 0
-AtMostIndex None n = Unit {0}
-AtMostIndex (Some c) n = c.0 ≤ n
-
-conflict_most : (l : List Entry) (p : ℕ) (es : List Entry) (n : ℕ) → p + length es ≤ n → AtMostIndex (conflict l p es) n
-unfolding conflict
-conflict_most l p [] n h = tt
-conflict_most l p (e ∷ es) n h =
-    cond_both (has_term l (suc p) e.term) (conflict l (suc p) es) (Some (index (suc p))) (λ o. AtMostIndex o n) (λ _. conflict_most l (suc p) es n (omega arith)) (λ _. omega arith)
 
 term_fits : (l : Letter) → LetterFits l → letter_term l < limit
 term_fits (append t p q k es) f = f.0
@@ -258,30 +241,6 @@ module _ (b : List ℕ) where
           (stored_kept (maybe_committed m₂ x.size.0 x.term.0) (with_unsettled x) (committed_kept m₂ x.size.0 x.term.0 k₂)
           (λ h. unsettled_small elapsed_word x (small h)))
 
-  -- AN APPEND
-  entry_kept : (m : List ℕ) (t : ℕ) (o : Maybe (List ℕ)) → Kept b m → t < limit → ContentFits o → Kept b (content_taken m t o)
-  entry_kept m t none k l f = pushed_kept b m (last_index m + 1) t (values m) k (λ _. l) (omega (arith, last_most m)) (omega (arith, number_most m (last_index m)))
-  entry_kept m t (some v) k l f = appended_kept b m t v k (λ _. l) f.0
-
-  entries_kept : (m : List ℕ) (es : List Entry) → Kept b m → EntriesFit es → Kept b (entries_taken m es)
-  unfolding entries_taken entry_taken
-  entries_kept m [] k f = k
-  entries_kept m (e ∷ es) k f = entries_kept (entry_taken m e) es (entry_kept m e.term e.content k f.0 f.1) f.2
-
-  merged_at_kept : (m : List ℕ) (p : ℕ) (es : List Entry) (o : Option Index) → Kept b m → EntriesFit es → AtMostIndex o 8208 → Kept b (merged_at m p es o)
-  unfolding truncated
-  merged_at_kept m p es None k f l = k
-  merged_at_kept m p es (Some c) k f l =
-      entries_kept (truncated m (c.0 - 1)) (drop (c.0 - 1 - p) es) (set_kept b m 64 (c.0 - 1) k (λ _. omega arith)) (fit_drop (c.0 - 1 - p) es f)
-
-  accepted_kept : (m : List ℕ) (p c : ℕ) (es : List Entry) → Kept b m → p ≤ 8193 → length es ≤ 15 → EntriesFit es → Kept b (accepted m p c es)
-  unfolding accepted commit_noted merged
-  accepted_kept m p c es k l few f =
-      let m₁ : List ℕ = merged m p es in
-      set_kept b m₁ 65 (max (commit_index m₁) (at_most c (p + length es)))
-      (merged_at_kept m p es (conflict (log_of m) p es) k f (conflict_most (log_of m) p es 8208 (omega arith)))
-      (λ _. omega (arith, commit_most m₁, last_most m₁, at_most_le c (p + length es)))
-
   -- A LETTER whose numbers are words
   module _ (m : List ℕ) (x : Machine Role) (k : Kept b m) (small : IfSmall (Small x)) where
     small_heard : (c : Bool) → IfSmall (Small (heard_from x c))
@@ -295,7 +254,7 @@ module _ (b : List ℕ) where
         (λ e.
         let low : p ≤ 8193 = near e in
         answered_kept (stored (accepted m p c es) (heard_from x (log_changes m p es))) f Accept (p + length es) 0
-        (stored_kept (accepted m p c es) (heard_from x (log_changes m p es)) (accepted_kept m p c es k low few fit) (small_heard (log_changes m p es))) (λ _. omega arith) (λ _. omega arith))
+        (stored_kept (accepted m p c es) (heard_from x (log_changes m p es)) (accepted_kept b m p c es k low few fit) (small_heard (log_changes m p es))) (λ _. omega arith) (λ _. omega arith))
         (λ _. answered_kept (stored m (heard_from x false)) f Reject p (hint (log_of m) p q) (stored_kept m (heard_from x false) k (small_heard false)) (λ _. l) (λ _. hinted))
       where
         near : accepts m p q es ≡ true → p ≤ 8193
