@@ -147,9 +147,9 @@ only_upd id i j =
       | inr ne ↦ ap (λ (b : Bool). cond b i 0) (ne_eqb j id ne) ∙ sym (upd_other (λ _. 0) id i j ne)
     ]
 
-upd_most : (id i j : ℕ) → upd (λ _. 0) id i j ≤ i
-upd_most id i j =
-    elim (cases_eq j id) [ inl e ↦ omega (arith, upd_at (λ _. 0) id i j e) | inr ne ↦ omega (arith, upd_other (λ _. 0) id i j ne) ]
+-- what one machine has is raised, and no more than k is had by any
+pub upd_within : (a : ℕ → ℕ) (id i j k : ℕ) → i ≤ k → a j ≤ k → upd a id i j ≤ k
+upd_within a id i j k l b = elim (cases_eq j id) [ inl e ↦ omega (arith, upd_at a id i j e) | inr ne ↦ omega (arith, upd_other a id i j ne) ]
 
 -- A NEW LEADER'S MEMORY
 pub record LeadsNow (n id : ℕ) (m : List ℕ) (h : Header Kind) (m₁ : List ℕ) (y : Machine (List ℕ)) : Type 0 where
@@ -200,7 +200,7 @@ module _ (n id : ℕ) (m : List ℕ) (h : Header Kind) (t : ℕ) (y : Machine (L
             begun_matched m₁ id (empty_place m) j (omega arith) (omega (arith, long₁))
             ∙ (only_upd id (empty_place m) j ∙ ap (λ (i : ℕ). upd (λ _. 0) id i j) place_is);
         sent = λ j l. begun_next m₁ id (empty_place m) j (omega arith) (omega (arith, long₁)) ∙ place_is;
-        acked_most = λ j l. upd_most id (length (renew y.term y.log)) j;
+        acked_most = λ j l. upd_within (λ _. 0) id (length (renew y.term y.log)) j (length (renew y.term y.log)) (omega arith) (omega arith);
         next_most = λ j l. omega arith;
       }
 

@@ -30,6 +30,7 @@ use Rattle.join_several.specs.Stands.{conf, lift_log, Leads, RoleStands, Stands}
 use Rattle.join_several.specs.Does.{lift_letter, lift_mail, posted}
 use Rattle.join_several.proofs.Frames.{due_row_long, due_row_before, due_row_behind}
 use Rattle.join_several.proofs.Lifts.{lift_length, lift_take, lift_drop, lift_term}
+use Rattle.join_several.proofs.Lifts.{lift_last, lift_before}
 
 -- pieces g 0, g 1 .. one behind the other: from the front, and by the last
 unfoldable front : {X : Type 0} → (ℕ → List X) → ℕ → ℕ → List X
@@ -283,18 +284,12 @@ module _ (m : List ℕ) (long : length m ≡ memory_words) where
 
 -- THE LETTERS of a memory whose log, term and commit are those of the machine x
 module _ (m : List ℕ) (x : Machine (List ℕ)) (term : (loaded m).term.0 ≡ x.term) (log : lift_log (log_of m) ≡ x.log) where
-  pub log_long : last_index m ≡ length x.log
-  log_long = sym (length_log m) ∙ (sym (lift_length (log_of m)) ∙ ap length log)
-
-  pub log_term_before : (i : ℕ) → term_at m i ≡ term_before x.log i
-  log_term_before i = sym (log_term m i) ∙ (sym (lift_term (log_of m) i) ∙ ap (λ (l : Log (List ℕ)). term_before l i) log)
-
   log_last_term : term_at m (last_index m) ≡ last_term x.log
   unfolding last_term
-  log_last_term = log_term_before (last_index m) ∙ ap (term_before x.log) log_long
+  log_last_term = lift_before m x.log log (last_index m) ∙ ap (term_before x.log) (lift_last m x.log log)
 
   pub request_made : (j : ℕ) → letter_of m RequestVote j ≡ request_of x
-  request_made j = let k = log_long in let q = log_last_term in λ i. request (term i) (k i) (q i)
+  request_made j = let k = lift_last m x.log log in let q = log_last_term in λ i. request (term i) (k i) (q i)
 
   take_capped : (l : List Row) (k : ℕ) → take (at_most (length l) k) l ≡ take k l
   take_capped l k =
@@ -315,16 +310,16 @@ module _ (m : List ℕ) (x : Machine (List ℕ)) (term : (loaded m).term.0 ≡ x
 
   pub append_made : (n j k : ℕ) → commit_index m ≡ x.commit → get_or m (22 + j) 0 ≡ k → k ≤ suc (length x.log) → letter_of m Append j ≡ append_at (conf n) x k
   append_made n j k commit next most =
-      let low : pred k ≤ last_index m = omega (arith, log_long) in
+      let low : pred k ≤ last_index m = omega (arith, lift_last m x.log log) in
       let e : prev_of m j ≡ pred k =
       ap (λ (w : ℕ). at_most (w - 1) (last_index m)) next ∙ (ap (λ (w : ℕ). at_most w (last_index m)) (omega arith) ∙ at_most_same (pred k) (last_index m) low) in
-      let q : term_at m (prev_of m j) ≡ term_before x.log (pred k) = ap (term_at m) e ∙ log_term_before (pred k) in
+      let q : term_at m (prev_of m j) ≡ term_before x.log (pred k) = ap (term_at m) e ∙ lift_before m x.log log (pred k) in
       let es : lift_log (log_entries m (prev_of m j + 1) (count_of m j)) ≡ take 15 (drop (pred k) x.log) =
       ap (λ (p : ℕ). lift_log (log_entries m (p + 1) (at_most (last_index m - p) 15))) e ∙ entries_part (pred k) low in
       λ i. append (term i) (e i) (q i) (commit i) (es i)
 
 -- A MACHINE THAT LEADS stands in memory as a leader
-abbrev next_of : Role → ℕ → ℕ
+abbrev pub next_of : Role → ℕ → ℕ
 next_of follower = λ _. 0
 next_of (candidate v) = λ _. 0
 next_of (leader a b) = b

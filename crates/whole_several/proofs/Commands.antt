@@ -16,7 +16,7 @@ use Rattle.machine.specs.World.{World as Theory}
 use Rattle.machine.proofs.Counts.{counts}
 use Rattle.join_several.specs.Stands.{conf}
 use Rattle.join_several.specs.Does.{Does}
-use Rattle.join_several.proofs.Outs.{log_long}
+use Rattle.join_several.proofs.Lifts.{lift_last}
 use Rattle.join_several.proofs.Proposals.{values_few}
 use Rattle.together.specs.House.{none_of, same, propose, how_far, nth_value}
 use Rattle.together.specs.Promise.{said, next, shows, done, Ran, ran, runs, last_since, are_bytes, all_small, Machine, machine_at, World, says, to_whom, event_for, before, with_proposal, may_end}
@@ -157,7 +157,7 @@ module _ (n k : ℕ) (v : World) (w : Theory) (j : Joined n k v w) (low : k ≤ 
         ap (λ (y : List (List ℕ)). length y) (decisions_map (nth_value ps) (w.memory h).log) ∙ length-map (decisions (w.memory h).log) (nth_value ps) in
         let c = counts (conf n) w h (w.memory h) j.reach (inl (up n k v w j low h there is_up, refl)) in
         let long : last_index x.memory ≡ length (w.memory h).log =
-        log_long x.memory (map_machine (nth_value ps) (w.memory h)) t.term t.log ∙ log_length (nth_value ps) (w.memory h).log in
+        lift_last x.memory (map_log (nth_value ps) (w.memory h).log) t.log ∙ log_length (nth_value ps) (w.memory h).log in
         elim (full_by x.memory (length q) f l) [
           | inl d ↦ omega (arith, c.0, c.1, j.proposals)
           | inr d ↦ omega (arith, c.0, j.proposals)
