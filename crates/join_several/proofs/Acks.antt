@@ -24,13 +24,14 @@ use Rattle.machine.specs.Machine.{Conf, Machine, machine, Role, follower, candid
 use Rattle.machine.specs.Step.{broadcast, append_at, majority_index, maybe_commit, leading, matched, next_after, handle_ack, next_below, handle_reject}
 use Rattle.join_several.specs.Stands.{conf, lift_log, Leads, RoleStands, Stands}
 use Rattle.join_several.specs.Does.{says, keeps, Handles}
-use Rattle.join_several.proofs.Frames.{commit_alike, applied_alike, stands_said, stands_said_others}
-use Rattle.join_several.proofs.Outs.{letter_of, posted_quiet, none_alike, posted_to, log_long, made_append}
+use Rattle.join_several.proofs.Frames.{stands_from, commit_alike, applied_alike, stands_said, stands_said_others}
+use Rattle.join_several.proofs.Outs.{letter_of, posted_quiet, none_alike, posted_to, next_of, made_append}
 use Rattle.join_several.proofs.Answered.{said_loaded, said_applied}
 use Rattle.join_several.proofs.Requests.{nothing_handled}
 use Rattle.join_several.proofs.Commits.{maybe_other, maybe_applied}
-use Rattle.join_several.proofs.Leads.{set_row, Ready, ready_stands, posted_appends, said_others_loaded, said_others_applied}
+use Rattle.join_several.proofs.Leads.{upd_within, set_row, Ready, ready_stands, posted_appends, said_others_loaded, said_others_applied}
 use Rattle.join_several.proofs.Votes.{others_some, told_some}
+use Rattle.join_several.proofs.Lifts.{lift_last}
 
 -- the larger and the smaller of two, as the code tells them
 at_least_max : (n limit : ℕ) → at_least n limit ≡ max limit n
@@ -70,11 +71,6 @@ acked_of follower = λ _. 0
 acked_of (candidate v) = λ _. 0
 acked_of (leader a b) = a
 
-abbrev next_of : Role → ℕ → ℕ
-next_of follower = λ _. 0
-next_of (candidate v) = λ _. 0
-next_of (leader a b) = b
-
 module _ (n id f : ℕ) (few : n ≤ 7) (sender : f < n) (other : f ≢ id) (m : List ℕ) (x : Machine (List ℕ)) (a b : ℕ → ℕ) (s : Stands n id m x)
     (role : (loaded m).role ≡ Leader) (is : x.role ≡ leader a b) where
   lead : Leads n m x
@@ -99,13 +95,10 @@ module _ (n id f : ℕ) (few : n ≤ 7) (sender : f < n) (other : f ≢ id) (m :
   long = s.tidy.entries.long
 
   last_is : last_index m ≡ length x.log
-  last_is = log_long m x s.term s.log
+  last_is = lift_last m x.log s.log
 
   short : length x.log ≤ 8193
   short = omega (arith, last_is, last_most m)
-
-  upd_within : (g : ℕ → ℕ) (w k j : ℕ) → w ≤ k → g j ≤ k → upd g f w j ≤ k
-  upd_within g w k j p q = elim (cases_eq j f) [ inl e ↦ omega (arith, upd_at g f w j e) | inr ne ↦ omega (arith, upd_other g f w j ne) ]
 
   -- A REJECTION
   module _ (p h : ℕ) where
@@ -151,20 +144,12 @@ module _ (n id f : ℕ) (few : n ≤ 7) (sender : f < n) (other : f ≢ id) (m :
           matched = λ j l. r_other (15 + j) (omega arith) ∙ row_a j l;
           sent = λ j l. set_row (λ (w : ℕ). w) m 22 f below b n (omega (arith, long)) sender row_b j l;
           acked_most = most_a;
-          next_most = λ j l. upd_within b below (suc (length x.log)) j fits (most_b j l);
+          next_most = λ j l. upd_within b f below j (suc (length x.log)) fits (most_b j l);
         }
 
     r_stands : p < b f → Stands n id r₁ x₁
     r_stands up =
-        record {
-          tidy = header_tidy m r₁ r_long r_behind s.tidy;
-          size = ap (λ (y : Header Kind). y.size.0) r_loaded ∙ s.size;
-          self = ap (λ (y : Header Kind). y.id.0) r_loaded ∙ s.self;
-          term = ap (λ (y : Header Kind). y.term.0) r_loaded ∙ s.term;
-          log = ap lift_log (header_log m r₁ r_long r_behind) ∙ s.log;
-          commit = commit_alike m r₁ r_long r_behind ∙ s.commit;
-          role = subst (λ (k : Kind). RoleStands n r₁ k x₁) (sym (ap (λ (y : Header Kind). y.role) r_loaded ∙ role)) (r_leads up);
-        }
+        stands_from n id m r₁ (loaded m) x₁ r_long r_behind r_loaded s.tidy s.size s.self s.term s.log s.commit (subst (λ (k : Kind). RoleStands n r₁ k x₁) (sym role) (r_leads up))
 
     r_says : p < b f → Handles n id m (said_to r₁ f Append) x (outcome x₁ (out f (append_at (conf n) x below) ∷ []))
     r_says up =
@@ -262,8 +247,8 @@ module _ (n id f : ℕ) (few : n ≤ 7) (sender : f < n) (other : f ≢ id) (m :
             sent = λ j l.
                 set_row (λ (w : ℕ). w) m₀ 22 f next₁ b n (omega (arith, long, length-set m (15 + f) (max (a f) i))) sender
                 (λ k q. get_or-set_other m (15 + f) (22 + k) (max (a f) i) 0 (omega arith) ∙ row_b k q) j l;
-            acked_most = λ j l. upd_within a (max (a f) i) (length x.log) j top (most_a j l);
-            next_most = λ j l. upd_within b next₁ (suc (length x.log)) j fits (most_b j l);
+            acked_most = λ j l. upd_within a f (max (a f) i) j (length x.log) top (most_a j l);
+            next_most = λ j l. upd_within b f next₁ j (suc (length x.log)) fits (most_b j l);
           }
 
       abbrev t : ℕ
@@ -339,7 +324,7 @@ module _ (n id f : ℕ) (few : n ≤ 7) (sender : f < n) (other : f ≢ id) (m :
       up_same = let p = s.commit in let q = stands₂.commit in λ j. ltb (p j) (q j)
 
       lacks_same : leb (next_at m₂ f) (last_index m₂) ≡ leb next₁ (length x.log)
-      lacks_same = let p = next₂ in let q = log_long m₂ then stands₂.term stands₂.log in λ j. leb (p j) (q j)
+      lacks_same = let p = next₂ in let q = lift_last m₂ then.log stands₂.log in λ j. leb (p j) (q j)
 
       spread_handled :
           mail_due m ≡ [] → Handles n id m (spread m₂ (loaded m) f (commit_index m)) x (sends (ltb x.commit k₁) (leb next₁ (length x.log)))

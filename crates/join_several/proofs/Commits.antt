@@ -17,7 +17,7 @@ use Rattle.protocol.specs.Log.{Log, term_before}
 use Rattle.protocol.specs.History.{count}
 use Rattle.machine.specs.Step.{is_majority, majority_index, maybe_commit}
 use Rattle.join_several.specs.Stands.{conf, lift_log}
-use Rattle.join_several.proofs.Lifts.{cond_pick, lift_length, lift_term}
+use Rattle.join_several.proofs.Lifts.{lift_last, lift_before, cond_pick, lift_length, lift_term}
 
 -- COUNTING along a row of memory is counting machines
 pub count_row :
@@ -111,16 +111,11 @@ ap_cond f false x y = refl
 -- THE COMMIT IS THE THEORY'S
 module _ (m : List ℕ) (n t : ℕ) (l : Log (List ℕ)) (a : ℕ → ℕ) (few : n ≤ 7) (tidy : Tidy m) (same : lift_log (log_of m) ≡ l)
     (row : (j : ℕ) → j < n → get_or m (15 + j) 0 ≡ a j) where
-  log_long : last_index m ≡ length l
-  log_long = sym (length_log m) ∙ (sym (lift_length (log_of m)) ∙ ap length same)
-
   quorum_same : quorum_index m n ≡ majority_index (conf n) a (length l)
-  quorum_same = majority_same m n a (omega (arith, tidy.entries.long)) row (last_index m) ∙ ap (majority_index (conf n) a) log_long
+  quorum_same = majority_same m n a (omega (arith, tidy.entries.long)) row (last_index m) ∙ ap (majority_index (conf n) a) (lift_last m l same)
 
   term_same : term_at m (quorum_index m n) ≡ term_before l (majority_index (conf n) a (length l))
-  term_same =
-      sym (log_term m (quorum_index m n)) ∙ (sym (lift_term (log_of m) (quorum_index m n))
-      ∙ (ap (λ (x : Log (List ℕ)). term_before x (quorum_index m n)) same ∙ ap (term_before l) quorum_same))
+  term_same = lift_before m l same (quorum_index m n) ∙ ap (term_before l) quorum_same
 
   pub maybe_commit_same : commit_index (maybe_committed m n t) ≡ maybe_commit (conf n) t l a (commit_index m)
   unfolding maybe_committed maybe_commit

@@ -23,7 +23,7 @@ use Rattle.machine.specs.Machine.{Machine, Role, follower, candidate, leader, Le
 use Rattle.machine.specs.Step.{owner, is_majority, broadcast, request_of, as_candidate, as_follower, new_leader, become_leader, poll, enter, enter_higher}
 use Rattle.join_several.specs.Stands.{conf, lift_log, RoleStands, Stands}
 use Rattle.join_several.specs.Does.{posted, Room}
-use Rattle.join_several.proofs.Frames.{commit_alike, applied_alike, due_row_long, due_row_behind, stands_said_others, stands_said, stands_stored}
+use Rattle.join_several.proofs.Frames.{stands_from, commit_alike, applied_alike, due_row_long, due_row_behind, stands_said_others, stands_said, stands_stored}
 use Rattle.join_several.proofs.Answered.{said_loaded, said_applied}
 use Rattle.join_several.proofs.Leads.{said_others_loaded, said_others_applied, LeadsNow, led_leads}
 use Rattle.join_several.proofs.Outs.{letter_of, posted_others, posted_to, to_others_cong, made_request, made_here}
@@ -70,21 +70,6 @@ said_log m h d = header_log m (row_set m 29 (others h (due_word d))) (due_row_lo
 pub told_log : (m : List ℕ) (j : ℕ) (d : Due) → log_of (said_to m j d) ≡ log_of m
 unfolding said_to
 told_log m j d = header_log m (row_set m 29 (only j (due_word d))) (due_row_long m (only j (due_word d))) (λ i l. due_row_behind m (only j (due_word d)) i (omega arith))
-
--- OTHER WORDS BEFORE THE LOG: what memory stands for then
-pub stands_from :
-    (n id : ℕ) (m m₁ : List ℕ) (y : Header Kind) (x : Machine (List ℕ)) → length m₁ ≡ length m → ((i : ℕ) → 64 ≤ i → get_or m₁ i 0 ≡ get_or m i 0) → loaded m₁ ≡ y →
-    Tidy m → y.size.0 ≡ n → y.id.0 ≡ id → y.term.0 ≡ x.term → lift_log (log_of m) ≡ x.log → commit_index m ≡ x.commit → RoleStands n m₁ y.role x → Stands n id m₁ x
-stands_from n id m m₁ y x long behind e tidy size self term log commit role =
-    record {
-      tidy = header_tidy m m₁ long behind tidy;
-      size = ap (λ (z : Header Kind). z.size.0) e ∙ size;
-      self = ap (λ (z : Header Kind). z.id.0) e ∙ self;
-      term = ap (λ (z : Header Kind). z.term.0) e ∙ term;
-      log = ap lift_log (header_log m m₁ long behind) ∙ log;
-      commit = commit_alike m m₁ long behind ∙ commit;
-      role = subst (λ (k : Kind). RoleStands n m₁ k x) (sym (ap (λ (z : Header Kind). z.role) e)) role;
-    }
 
 -- A TERM IS ENTERED: what memory is then, against what the theory makes of x
 pub record Enters (n id : ℕ) (m m₁ : List ℕ) (d : Outcome (List ℕ)) : Type 0 where

@@ -41,6 +41,21 @@ module _ (m m₁ : List ℕ) (long : length m₁ ≡ length m) (behind : (i : �
   pub applied_alike : applied_number m₁ ≡ applied_number m
   applied_alike = same_applied m m₁ (behind 66 (omega arith))
 
+-- OTHER WORDS BEFORE THE LOG: what memory stands for then
+pub stands_from :
+    (n id : ℕ) (m m₁ : List ℕ) (y : Header Kind) (x : Machine (List ℕ)) → length m₁ ≡ length m → ((i : ℕ) → 64 ≤ i → get_or m₁ i 0 ≡ get_or m i 0) → loaded m₁ ≡ y →
+    Tidy m → y.size.0 ≡ n → y.id.0 ≡ id → y.term.0 ≡ x.term → lift_log (log_of m) ≡ x.log → commit_index m ≡ x.commit → RoleStands n m₁ y.role x → Stands n id m₁ x
+stands_from n id m m₁ y x long behind e tidy size self term log commit role =
+    record {
+      tidy = header_tidy m m₁ long behind tidy;
+      size = ap (λ (z : Header Kind). z.size.0) e ∙ size;
+      self = ap (λ (z : Header Kind). z.id.0) e ∙ self;
+      term = ap (λ (z : Header Kind). z.term.0) e ∙ term;
+      log = ap lift_log (header_log m m₁ long behind) ∙ log;
+      commit = commit_alike m m₁ long behind ∙ commit;
+      role = subst (λ (k : Kind). RoleStands n m₁ k x) (sym (ap (λ (z : Header Kind). z.role) e)) role;
+    }
+
 -- A CHANGE OF THE WORDS 29 to 63, which hold the letters that are due, leaves what memory stands for
 module _ (m m₁ : List ℕ) (long : length m₁ ≡ length m) (before : (i : ℕ) → i < 29 → get_or m₁ i 0 ≡ get_or m i 0) (behind : (i : ℕ) → 64 ≤ i → get_or m₁ i 0 ≡ get_or m i 0) where
   pub loaded_same : loaded m₁ ≡ loaded m
@@ -48,15 +63,7 @@ module _ (m m₁ : List ℕ) (long : length m₁ ≡ length m) (before : (i : �
 
   pub stands_alike : (n id : ℕ) (x : Machine (List ℕ)) → n ≤ 7 → Stands n id m x → Stands n id m₁ x
   stands_alike n id x few s =
-      record {
-        tidy = header_tidy m m₁ long behind s.tidy;
-        size = ap (λ (y : Header Kind). y.size.0) loaded_same ∙ s.size;
-        self = ap (λ (y : Header Kind). y.id.0) loaded_same ∙ s.self;
-        term = ap (λ (y : Header Kind). y.term.0) loaded_same ∙ s.term;
-        log = ap lift_log (header_log m m₁ long behind) ∙ s.log;
-        commit = commit_alike m m₁ long behind ∙ s.commit;
-        role = subst (λ (k : Kind). RoleStands n m₁ k x) (sym (ap (λ (y : Header Kind). y.role) loaded_same)) (role_alike n m m₁ (loaded m).role x few (λ i a b. before i b) s.role);
-      }
+      stands_from n id m m₁ (loaded m) x long behind loaded_same s.tidy s.size s.self s.term s.log s.commit (role_alike n m m₁ (loaded m).role x few (λ i a b. before i b) s.role)
 
 -- letters that are due
 module _ (m : List ℕ) (f : ℕ → ℕ) where
@@ -94,15 +101,5 @@ pub stands_stored :
     (n id : ℕ) (m : List ℕ) (y : Header Kind) (x : Machine (List ℕ)) → n ≤ 7 → Tidy m → Held y → y.size.0 ≡ n → y.id.0 ≡ id → y.term.0 ≡ x.term →
     lift_log (log_of m) ≡ x.log → commit_index m ≡ x.commit → RoleStands n m y.role x → Stands n id (stored m y) x
 stands_stored n id m y x few tidy held size self term log commit role =
-    let behind : (i : ℕ) → 64 ≤ i → get_or (stored m y) i 0 ≡ get_or m i 0 = λ i l. stored_other m y i (omega arith) in
-    let long = length_stored m y in
-    let e = loaded_stored m y tidy.entries.long held in
-    record {
-      tidy = header_tidy m (stored m y) long behind tidy;
-      size = ap (λ (z : Header Kind). z.size.0) e ∙ size;
-      self = ap (λ (z : Header Kind). z.id.0) e ∙ self;
-      term = ap (λ (z : Header Kind). z.term.0) e ∙ term;
-      log = ap lift_log (header_log m (stored m y) long behind) ∙ log;
-      commit = commit_alike m (stored m y) long behind ∙ commit;
-      role = subst (λ (k : Kind). RoleStands n (stored m y) k x) (sym (ap (λ (z : Header Kind). z.role) e)) (role_alike n m (stored m y) y.role x few (λ i a b. stored_other m y i a) role);
-    }
+    stands_from n id m (stored m y) y x (length_stored m y) (λ i l. stored_other m y i (omega arith)) (loaded_stored m y tidy.entries.long held) tidy size self term log commit
+    (role_alike n m (stored m y) y.role x few (λ i a b. stored_other m y i a) role)

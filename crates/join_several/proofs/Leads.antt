@@ -4,8 +4,8 @@ use Rattle.std.proofs.lemmas.List.{get_or-set_same, get_or-set_other}
 use Rattle.std.proofs.lemmas.Bool.{cond-true, cases_eq, le-leb, eq-eqb, ne_eqb}
 use Rattle.raft_log.specs.Layout.{memory_words}
 use Rattle.raft_log.specs.View.{log_of, Tidy}
-use Rattle.raft_log.specs.Entries.{last_index, commit_index, applied_number, empty_place, empty_fits, empty_appended}
-use Rattle.raft_log.proofs.ValueLaws.{at_most_same}
+use Rattle.raft_log.specs.Entries.{commit_index, applied_number, empty_place, empty_fits, empty_appended}
+use Rattle.raft_log.proofs.AcceptLaws.{commit_tidy}
 use Rattle.raft_log.proofs.LogChanges.{header_log, header_tidy}
 use Rattle.raft_log.proofs.AppendLaws.{length_empty, empty_header, empty_applied}
 use Rattle.raft_log.proofs.LogAppends.{empty_appended_log, empty_appended_tidy, renew_place_log}
@@ -37,12 +37,8 @@ use Rattle.join_several.proofs.Lifts.{lift_renew_index, lift_renewed}
 use Rattle.join_several.proofs.Commits.{maybe_other, maybe_log, maybe_tidy, maybe_applied, maybe_commit_same}
 
 -- in a tidy memory the commit is the word itself
-pub tidy_commit : (m : List ℕ) → Tidy m → commit_index m ≡ get_or m 65 0
-unfolding commit_index
-tidy_commit m d = at_most_same (get_or m 65 0) (last_index m) d.commit
-
 pub commit_word : (m m₁ : List ℕ) → Tidy m → Tidy m₁ → get_or m₁ 65 0 ≡ get_or m 65 0 → commit_index m₁ ≡ commit_index m
-commit_word m m₁ d d₁ e = tidy_commit m₁ d₁ ∙ (e ∙ sym (tidy_commit m d))
+commit_word m m₁ d d₁ e = commit_tidy m₁ d₁ ∙ (e ∙ sym (commit_tidy m d))
 
 -- one word of a row is set: what the row says is updated there
 pub set_row :
@@ -151,9 +147,9 @@ only_upd id i j =
       | inr ne ↦ ap (λ (b : Bool). cond b i 0) (ne_eqb j id ne) ∙ sym (upd_other (λ _. 0) id i j ne)
     ]
 
-upd_most : (id i j : ℕ) → upd (λ _. 0) id i j ≤ i
-upd_most id i j =
-    elim (cases_eq j id) [ inl e ↦ omega (arith, upd_at (λ _. 0) id i j e) | inr ne ↦ omega (arith, upd_other (λ _. 0) id i j ne) ]
+-- what one machine has is raised, and no more than k is had by any
+pub upd_within : (a : ℕ → ℕ) (id i j k : ℕ) → i ≤ k → a j ≤ k → upd a id i j ≤ k
+upd_within a id i j k l b = elim (cases_eq j id) [ inl e ↦ omega (arith, upd_at a id i j e) | inr ne ↦ omega (arith, upd_other a id i j ne) ]
 
 -- A NEW LEADER'S MEMORY
 pub record LeadsNow (n id : ℕ) (m : List ℕ) (h : Header Kind) (m₁ : List ℕ) (y : Machine (List ℕ)) : Type 0 where
@@ -204,7 +200,7 @@ module _ (n id : ℕ) (m : List ℕ) (h : Header Kind) (t : ℕ) (y : Machine (L
             begun_matched m₁ id (empty_place m) j (omega arith) (omega (arith, long₁))
             ∙ (only_upd id (empty_place m) j ∙ ap (λ (i : ℕ). upd (λ _. 0) id i j) place_is);
         sent = λ j l. begun_next m₁ id (empty_place m) j (omega arith) (omega (arith, long₁)) ∙ place_is;
-        acked_most = λ j l. upd_most id (length (renew y.term y.log)) j;
+        acked_most = λ j l. upd_within (λ _. 0) id (length (renew y.term y.log)) j (length (renew y.term y.log)) (omega arith) (omega arith);
         next_most = λ j l. omega arith;
       }
 

@@ -14,6 +14,9 @@ use Rattle.protocol.specs.Log.{Entry, entry, Log, entry_at, term_at, content_at,
 use Rattle.machine.specs.Hints.{index_by_term}
 use Rattle.machine.specs.Step.{is_up_to_date, prev_matches, hint}
 use Rattle.join_several.specs.Stands.{conf, lift_entry, lift_log}
+use Rattle.raft_log.specs.Entries.{last_index, term_at as term_at_index}
+use Rattle.raft_log.specs.View.{log_of}
+use Rattle.raft_log.proofs.ViewLaws.{length_log, log_term}
 
 -- a test of the code is a choice of the theory
 pub cond_pick : {A : Type 0} (b : Bool) (x y : A) → cond b x y ≡ pick b x y
@@ -149,3 +152,11 @@ lift_renewed t l =
     lift_push (take (renew_place l) l) t none
     ∙ (ap (λ (x : Log (List ℕ)). x ++ entry t none ∷ []) (lift_take (renew_place l) l)
     ∙ ap (λ (k : ℕ). take k (lift_log l) ++ entry t none ∷ []) (lift_renew_index l))
+
+-- A MEMORY whose log is l
+module _ (m : List ℕ) (l : Log (List ℕ)) (same : lift_log (log_of m) ≡ l) where
+  pub lift_last : last_index m ≡ length l
+  lift_last = sym (length_log m) ∙ (sym (lift_length (log_of m)) ∙ ap length same)
+
+  pub lift_before : (i : ℕ) → term_at_index m i ≡ term_before l i
+  lift_before i = sym (log_term m i) ∙ (sym (lift_term (log_of m) i) ∙ ap (λ (x : Log (List ℕ)). term_before x i) same)

@@ -2,11 +2,10 @@
 use Rattle.std.proofs.Common.{◌≡◌, ℕ, zero, suc, pred, ◌+◌, ◌-◌, ◌<◌, ◌≤◌, Bool, true, false, cond, not, ◌&&◌, eqb, ltb, ◌≢◌, List, [], ◌∷◌, ◌++◌, map, length, get_or, take, drop, set, Some, None, Option, sym, refl, ap, ◌∙◌, subst, inl, inr, add-one, arith}
 use Rattle.std.proofs.lemmas.List.{append-nil, append_assoc, map-append, length-set, length-drop, take_all, get_or-set_same, get_or-set_other}
 use Rattle.std.proofs.lemmas.Bool.{cases_eq, eq-eqb, ne_eqb, lt-ltb, le-ltb, and_left, cond-true, cond-false, cond_both, ltb-true, ltb-false}
-use Rattle.std.specs.List.{range_with_len}
 use Rattle.raft_log.specs.Layout.{memory_words, at_most}
-use Rattle.raft_log.specs.Block.{Entry as Row, log_entry, log_entries}
+use Rattle.raft_log.specs.Block.{Entry as Row, log_entries}
 use Rattle.raft_log.specs.View.{log_of}
-use Rattle.raft_log.specs.Entries.{last_index, commit_index, term_at, number_at}
+use Rattle.raft_log.specs.Entries.{last_index, commit_index, term_at}
 use Rattle.raft_log.proofs.ValueLaws.{at_most_same}
 use Rattle.raft_log.proofs.LogLaws.{SameEntries, same_entries, same_commit}
 use Rattle.raft_log.proofs.ViewLaws.{length_log, log_term, log_entries_part}
@@ -22,14 +21,16 @@ use Rattle.raft.specs.Say.{due_of}
 use Rattle.raft.specs.Outbox.{Mail, mail_due, due_to, prev_of, count_of, letter_made, mail_at, mail_from}
 use Rattle.raft.proofs.HeaderLaws.{loaded_alike}
 use Rattle.raft.proofs.RowLaws.{row_put_same}
+use Rattle.raft.proofs.Mails.{letter_alike, mails_alike}
 use Rattle.protocol.specs.Lists.{pick}
 use Rattle.protocol.specs.Log.{Log, term_before, last_term}
-use Rattle.machine.specs.Machine.{Machine, Role, follower, candidate, leader, Letter, append, request, vote, ack, reject, here, Out, out}
+use Rattle.machine.specs.Machine.{Machine, Role, follower, candidate, leader, Letter, append, request, ack, reject, here, Out, out}
 use Rattle.machine.specs.Step.{to_others, request_of, append_at}
 use Rattle.join_several.specs.Stands.{conf, lift_log, Leads, RoleStands, Stands}
 use Rattle.join_several.specs.Does.{lift_letter, lift_mail, posted}
 use Rattle.join_several.proofs.Frames.{due_row_long, due_row_before, due_row_behind}
 use Rattle.join_several.proofs.Lifts.{lift_length, lift_take, lift_drop, lift_term}
+use Rattle.join_several.proofs.Lifts.{lift_last, lift_before}
 
 -- pieces g 0, g 1 .. one behind the other: from the front, and by the last
 unfoldable front : {X : Type 0} → (ℕ → List X) → ℕ → ℕ → List X
@@ -191,56 +192,25 @@ module _ (m m₁ : List ℕ) (term : (loaded m₁).term.0 ≡ (loaded m).term.0)
   commit : commit_index m₁ ≡ commit_index m
   commit = same_commit m m₁ entries (behind 65 (omega arith))
 
-  entry_same : (i : ℕ) → log_entry m₁ i ≡ log_entry m i
-  entry_same i = cc (entries.terms i, entries.numbers i, entries.numbers (i - 1), entries.held (number_at m i - 1))
+  letters_same : (d : Due) (j : ℕ) → j < 7 → letter_of m₁ d j ≡ letter_of m d j
+  letters_same d j l = ap lift_letter (letter_alike m m₁ entries commit term next first second d j l)
 
-  rows_same : (p n : ℕ) → log_entries m₁ p n ≡ log_entries m p n
-  unfolding log_entries
-  rows_same p n = λ i. map (λ (k : ℕ). entry_same k i) (range_with_len p n)
+  -- and so are the words of what is due
+  posted_same : ((i : ℕ) → i < 7 → get_or m₁ (29 + i) 0 ≡ get_or m (29 + i) 0) → posted m₁ ≡ posted m
+  unfolding posted
+  posted_same words = ap (λ (ls : List Mail). map lift_mail ls) (mails_alike m m₁ entries commit term next first second 0 7 (omega arith) (λ i a b. words i b))
 
-  pub letter_alike : (d : Due) (j : ℕ) → j < 7 → letter_of m₁ d j ≡ letter_of m d j
-  letter_alike Append j l =
-      let w : get_or m₁ (22 + j) 0 ≡ get_or m (22 + j) 0 = next (22 + j) (omega arith) (omega arith) in
-      let last = entries.last in
-      let p : prev_of m₁ j ≡ prev_of m j = λ i. at_most (w i - 1) (last i) in
-      let c : count_of m₁ j ≡ count_of m j = λ i. at_most (last i - p i) 15 in
-      let q : term_at m₁ (prev_of m₁ j) ≡ term_at m (prev_of m j) = ap (term_at m₁) p ∙ entries.terms (prev_of m j) in
-      let es : log_entries m₁ (prev_of m₁ j + 1) (count_of m₁ j) ≡ log_entries m (prev_of m j + 1) (count_of m j) =
-      (λ i. log_entries m₁ (p i + 1) (c i)) ∙ rows_same (prev_of m j + 1) (count_of m j) in
-      let k = commit in
-      λ i. append (term i) (p i) (q i) (k i) (lift_log (es i))
-  letter_alike RequestVote j l =
-      let last = entries.last in
-      let q : term_at m₁ (last_index m₁) ≡ term_at m (last_index m) = ap (term_at m₁) last ∙ entries.terms (last_index m) in
-      λ i. request (term i) (last i) (q i)
-  letter_alike TellTerm j l = ap here term
-  letter_alike Grant j l = λ i. vote (term i) true
-  letter_alike Deny j l = λ i. vote (term i) false
-  letter_alike Accept j l = λ i. ack (term i) (first i)
-  letter_alike Reject j l = λ i. reject (term i) (first i) (second i)
-
--- the words of what is due are the same too
 pub posted_alike :
     (m m₁ : List ℕ) → (loaded m₁).term.0 ≡ (loaded m).term.0 → ((i : ℕ) → 22 ≤ i → i < 38 → get_or m₁ i 0 ≡ get_or m i 0) → ((i : ℕ) → 64 ≤ i → get_or m₁ i 0 ≡ get_or m i 0) → posted m₁ ≡ posted m
-posted_alike m m₁ term words behind = posted_pieces m₁ ∙ (back_cong (piece m₁) (piece m) 7 (λ j l. same j l) ∙ sym (posted_pieces m))
-  where
-    made : (d : Due) (j : ℕ) → j < 7 → letter_of m₁ d j ≡ letter_of m d j
-    made = letter_alike m m₁ term (λ i a b. words i a (omega arith)) (words 36 (omega arith) (omega arith)) (words 37 (omega arith) (omega arith)) behind
-
-    by : (j : ℕ) → j < 7 → (o : Option Due) → map lift_mail (mail_at m₁ (loaded m₁) j o) ≡ map lift_mail (mail_at m (loaded m) j o)
-    by j l None = refl
-    by j l (Some d) = ap (λ (y : Letter (List ℕ)). out j y ∷ []) (made d j l)
-
-    same : (j : ℕ) → j < 7 → piece m₁ j ≡ piece m j
-    same j l =
-        by j l (due_to m₁ j) ∙ ap (λ (w : ℕ). map lift_mail (mail_at m (loaded m) j (due_of w))) (words (29 + j) (omega arith) (omega arith))
+posted_alike m m₁ term words behind =
+    posted_same m m₁ term (λ i a b. words i a (omega arith)) (words 36 (omega arith) (omega arith)) (words 37 (omega arith) (omega arith)) behind (λ i l. words (29 + i) (omega arith) (omega arith))
 
 -- WHAT IS SAID IS DUE
 module _ (m : List ℕ) (long : length m ≡ memory_words) where
   -- a row of what is due leaves the letters themselves
   row_letters : (f : ℕ → ℕ) (d : Due) (j : ℕ) → j < 7 → letter_of (row_set m 29 f) d j ≡ letter_of m d j
   row_letters f =
-      letter_alike m (row_set m 29 f) (ap (λ (y : Header Kind). y.term.0) (loaded_alike m (row_set m 29 f) (λ i l. due_row_before m f i (omega arith))))
+      letters_same m (row_set m 29 f) (ap (λ (y : Header Kind). y.term.0) (loaded_alike m (row_set m 29 f) (λ i l. due_row_before m f i (omega arith))))
       (λ i a b. due_row_before m f i b) (due_row_behind m f 36 (omega arith)) (due_row_behind m f 37 (omega arith)) (λ i l. due_row_behind m f i (omega arith))
 
   row_word : (f : ℕ → ℕ) (j : ℕ) → j < 7 → get_or (row_set m 29 f) (29 + j) 0 ≡ f j
@@ -314,18 +284,12 @@ module _ (m : List ℕ) (long : length m ≡ memory_words) where
 
 -- THE LETTERS of a memory whose log, term and commit are those of the machine x
 module _ (m : List ℕ) (x : Machine (List ℕ)) (term : (loaded m).term.0 ≡ x.term) (log : lift_log (log_of m) ≡ x.log) where
-  pub log_long : last_index m ≡ length x.log
-  log_long = sym (length_log m) ∙ (sym (lift_length (log_of m)) ∙ ap length log)
-
-  pub log_term_before : (i : ℕ) → term_at m i ≡ term_before x.log i
-  log_term_before i = sym (log_term m i) ∙ (sym (lift_term (log_of m) i) ∙ ap (λ (l : Log (List ℕ)). term_before l i) log)
-
   log_last_term : term_at m (last_index m) ≡ last_term x.log
   unfolding last_term
-  log_last_term = log_term_before (last_index m) ∙ ap (term_before x.log) log_long
+  log_last_term = lift_before m x.log log (last_index m) ∙ ap (term_before x.log) (lift_last m x.log log)
 
   pub request_made : (j : ℕ) → letter_of m RequestVote j ≡ request_of x
-  request_made j = let k = log_long in let q = log_last_term in λ i. request (term i) (k i) (q i)
+  request_made j = let k = lift_last m x.log log in let q = log_last_term in λ i. request (term i) (k i) (q i)
 
   take_capped : (l : List Row) (k : ℕ) → take (at_most (length l) k) l ≡ take k l
   take_capped l k =
@@ -346,16 +310,16 @@ module _ (m : List ℕ) (x : Machine (List ℕ)) (term : (loaded m).term.0 ≡ x
 
   pub append_made : (n j k : ℕ) → commit_index m ≡ x.commit → get_or m (22 + j) 0 ≡ k → k ≤ suc (length x.log) → letter_of m Append j ≡ append_at (conf n) x k
   append_made n j k commit next most =
-      let low : pred k ≤ last_index m = omega (arith, log_long) in
+      let low : pred k ≤ last_index m = omega (arith, lift_last m x.log log) in
       let e : prev_of m j ≡ pred k =
       ap (λ (w : ℕ). at_most (w - 1) (last_index m)) next ∙ (ap (λ (w : ℕ). at_most w (last_index m)) (omega arith) ∙ at_most_same (pred k) (last_index m) low) in
-      let q : term_at m (prev_of m j) ≡ term_before x.log (pred k) = ap (term_at m) e ∙ log_term_before (pred k) in
+      let q : term_at m (prev_of m j) ≡ term_before x.log (pred k) = ap (term_at m) e ∙ lift_before m x.log log (pred k) in
       let es : lift_log (log_entries m (prev_of m j + 1) (count_of m j)) ≡ take 15 (drop (pred k) x.log) =
       ap (λ (p : ℕ). lift_log (log_entries m (p + 1) (at_most (last_index m - p) 15))) e ∙ entries_part (pred k) low in
       λ i. append (term i) (e i) (q i) (commit i) (es i)
 
 -- A MACHINE THAT LEADS stands in memory as a leader
-abbrev next_of : Role → ℕ → ℕ
+abbrev pub next_of : Role → ℕ → ℕ
 next_of follower = λ _. 0
 next_of (candidate v) = λ _. 0
 next_of (leader a b) = b

@@ -30,10 +30,10 @@ use Rattle.join_several.specs.Stands.{conf, lift_log, Leads, RoleStands, Stands}
 use Rattle.join_several.specs.Does.{Does}
 use Rattle.join_several.proofs.Frames.{commit_alike, applied_alike, stands_said_others}
 use Rattle.join_several.proofs.Lifts.{lift_push, lift_decisions}
-use Rattle.join_several.proofs.Outs.{log_long}
 use Rattle.join_several.proofs.Answered.{stored_applied}
 use Rattle.join_several.proofs.Commits.{maybe_tidy, maybe_applied}
-use Rattle.join_several.proofs.Leads.{commit_word, set_row, Ready, ready_stored, posted_appends, said_others_loaded, said_others_applied}
+use Rattle.join_several.proofs.Leads.{upd_within, commit_word, set_row, Ready, ready_stored, posted_appends, said_others_loaded, said_others_applied}
+use Rattle.join_several.proofs.Lifts.{lift_last}
 
 -- THE LOG of a memory that takes a value holds fewer than there is room for
 pub values_few : (n id : ℕ) (m : List ℕ) (x : Machine (List ℕ)) → Stands n id m x → length (decisions x.log) ≡ values m
@@ -41,10 +41,6 @@ values_few n id m x s =
     let all : take (last_index m) (log_of m) ≡ log_of m = take_all (last_index m) (log_of m) (omega (arith, length_log m)) in
     ap (λ (l : Log (List ℕ)). length (decisions l)) (sym s.log)
     ∙ (ap length (sym (lift_decisions (log_of m))) ∙ (ap (λ (l : List Row). length (row_decisions l)) (sym all) ∙ number_counts m s.tidy.entries (last_index m) (omega arith)))
-
--- the leader's own match, which it raises to the whole log
-upd_within : (a : ℕ → ℕ) (id i j k : ℕ) → i ≤ k → a j ≤ k → upd a id i j ≤ k
-upd_within a id i j k l b = elim (cases_eq j id) [ inl e ↦ omega (arith, upd_at a id i j e) | inr ne ↦ omega (arith, upd_other a id i j ne) ]
 
 module _ (n id : ℕ) (m : List ℕ) (x : Machine (List ℕ)) (v : List ℕ) (few : n ≤ 7) (low : id < n) (s : Stands n id m x) (role : (loaded m).role ≡ Leader)
     (fits : value_fits m (length v) ≡ true) (bytes : (i : ℕ) → get_or v i 0 < 256) where
@@ -91,7 +87,7 @@ module _ (n id : ℕ) (m : List ℕ) (x : Machine (List ℕ)) (v : List ℕ) (fe
   commit₁ = commit_word m m₁ s.tidy tidy₁ (appended_header m t v long fits 65 (omega arith) (omega arith)) ∙ s.commit
 
   place_is : last_index m + 1 ≡ length (extended x v).log
-  place_is = omega (arith, log_long m x s.term s.log, push_length x.log (entry x.term (some v)))
+  place_is = omega (arith, lift_last m x.log s.log, push_length x.log (entry x.term (some v)))
 
   long₂ : length m₂ ≡ length m₁
   long₂ = length-set m₁ (15 + id) (last_index m + 1)

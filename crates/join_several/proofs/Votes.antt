@@ -18,7 +18,7 @@ use Rattle.machine.specs.Machine.{Machine, Role, follower, candidate, leader, Le
 use Rattle.machine.specs.Step.{is_majority, to_others, append_at, new_leader, become_leader, as_candidate, poll}
 use Rattle.join_several.specs.Stands.{conf, lift_log, Stood, RoleStands, Stands}
 use Rattle.join_several.specs.Does.{posted, Room, Told, says, keeps, Handles}
-use Rattle.join_several.proofs.Frames.{commit_alike, applied_alike}
+use Rattle.join_several.proofs.Frames.{stands_from, commit_alike, applied_alike}
 use Rattle.join_several.proofs.Outs.{posted_alike}
 use Rattle.join_several.proofs.Commits.{count_row}
 use Rattle.join_several.proofs.Leads.{set_row, led_leads}
@@ -89,20 +89,8 @@ module _ (n id f : ℕ) (few : n ≤ 7) (sender : f < n) (other : f ≢ id) (m :
   -- it waits for more votes
   stands₁ : Stands n id m₁ (as_candidate x (upd v f true))
   stands₁ =
-      record {
-        tidy = header_tidy m m₁ long₁ behind₁ s.tidy;
-        size = ap (λ (y : Header Kind). y.size.0) loaded₁ ∙ s.size;
-        self = ap (λ (y : Header Kind). y.id.0) loaded₁ ∙ s.self;
-        term = ap (λ (y : Header Kind). y.term.0) loaded₁ ∙ s.term;
-        log = ap lift_log (header_log m m₁ long₁ behind₁) ∙ s.log;
-        commit = commit_alike m m₁ long₁ behind₁ ∙ s.commit;
-        role = waits;
-      }
-    where
-      waits : RoleStands n m₁ (loaded m₁).role (as_candidate x (upd v f true))
-      waits =
-          subst (λ (k : Kind). RoleStands n m₁ k (as_candidate x (upd v f true))) (sym (ap (λ (y : Header Kind). y.role) loaded₁ ∙ role))
-          (record { votes = upd v f true; role = refl; elapsed = stood.elapsed; counted = counted₁ })
+      stands_from n id m m₁ (loaded m) (as_candidate x (upd v f true)) long₁ behind₁ loaded₁ s.tidy s.size s.self s.term s.log s.commit
+      (subst (λ (k : Kind). RoleStands n m₁ k (as_candidate x (upd v f true))) (sym role) (record { votes = upd v f true; role = refl; elapsed = stood.elapsed; counted = counted₁ }))
 
   waits_on : Handles n id m m₁ x (outcome (as_candidate x (upd v f true)) [])
   waits_on =

@@ -20,7 +20,7 @@ module _ {A B : Type 0} (f : A → B) where
   entry_map (e ∷ es) zero = refl
   entry_map (e ∷ es) (suc i) = entry_map es i
 
-  term_map : (l : Log A) (i : ℕ) → term_at (map_log f l) i ≡ term_at l i
+  pub term_map : (l : Log A) (i : ℕ) → term_at (map_log f l) i ≡ term_at l i
   term_map l i = ap (λ (e : Entry B). e.term) (entry_map l i)
 
   pub term_before_map : (l : Log A) (p : ℕ) → term_before (map_log f l) p ≡ term_before l p

@@ -1,5 +1,4 @@
 pub mod RowLaws
 pub mod Quorum
 pub mod HeaderLaws
-pub mod Parts
 pub mod Mails

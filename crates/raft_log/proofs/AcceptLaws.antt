@@ -10,7 +10,8 @@ use Rattle.raft_log.specs.Block.{Entry, row_code, row_length, value_offset, cont
 use Rattle.raft_log.specs.View.{entry, log_of, TidyEntries, Tidy, no_entry, with_content, decisions, ValidContent, Valid}
 use Rattle.raft_log.specs.Conflict.{has_term, conflict, spliced, Agreeing, merge}
 use Rattle.raft_log.specs.Accept.{truncated, content_taken, entry_taken, entries_taken, entries_fit, merges, merged, commit_noted, accepts, accepted}
-use Rattle.raft_log.proofs.ValueLaws.{at_most_same, Bytes}
+use Rattle.raft_log.proofs.ValueLaws.{at_most_same}
+use Rattle.raft_log.specs.Bytes.{Bytes}
 use Rattle.raft_log.proofs.LogLaws.{SameEntries, same_entries, commit_most}
 use Rattle.raft_log.proofs.AppendLaws.{pushed_other, appended_header}
 use Rattle.raft_log.proofs.ViewLaws.{length_log}
@@ -140,7 +141,7 @@ commit_read : (m : List ℕ) → commit_index m ≡ at_most (get_or m 65 0) (las
 unfolding commit_index
 commit_read m = refl
 
-commit_tidy : (m : List ℕ) → Tidy m → commit_index m ≡ get_or m 65 0
+pub commit_tidy : (m : List ℕ) → Tidy m → commit_index m ≡ get_or m 65 0
 commit_tidy m d = commit_read m ∙ at_most_same (get_or m 65 0) (last_index m) d.commit
 
 -- WHAT IS KNOWN TO BE DECIDED
@@ -194,10 +195,6 @@ module _ (m : List ℕ) (p q k : ℕ) (es : List Entry) (d : Tidy m) (v : Valid 
   -- where equal terms mean equal entries, as between machines that keep to the protocol
   pub accepted_merge : Agreeing (log_of m) p es → log_of (accepted m p k es) ≡ merge (log_of m) p es
   accepted_merge a = accepted_log ∙ spliced_merge (log_of m) p es a
-
-  pub length_accepted : length (accepted m p k es) ≡ length m
-  unfolding accepted
-  length_accepted = length_commit_noted (merged m p es) told changed.tidy.long ∙ (changed.tidy.long ∙ sym d.entries.long)
 
   -- the machine's own words, and what was applied, stay
   pub accepted_header : (i : ℕ) → i < 72 → i ≢ 64 → i ≢ 65 → get_or (accepted m p k es) i 0 ≡ get_or m i 0

@@ -1,12 +1,13 @@
 -- The log with one entry more, or with its last entry renewed.
-use Rattle.std.proofs.Common.{◌≡◌, ℕ, zero, suc, ◌+◌, ◌-◌, ◌*◌, ◌<◌, ◌≤◌, true, cond, ◌&&◌, eqb, ltb, leb, ◌≢◌, List, length, get_or, set, sym, refl, ap, ◌∙◌, inl, inr, arith}
+use Rattle.std.proofs.Common.{◌≡◌, ℕ, zero, suc, ◌+◌, ◌-◌, ◌*◌, ◌<◌, ◌≤◌, true, cond, ◌&&◌, eqb, ltb, leb, ◌≢◌, List, length, get_or, set, sym, ap, ◌∙◌, inl, inr, arith}
 use Rattle.std.proofs.lemmas.List.{length-set, get_or-set_same, get_or-set_other}
 use Rattle.std.proofs.lemmas.Bool.{ltb-true, leb-true, eqb-true, le-leb, eq-eqb, and_parts, and_from, cond-true, cond-false, cond_both, cases_Bool}
 use Rattle.raft_log.specs.Layout.{memory_words, at_most, entry_row}
 use Rattle.raft_log.specs.Values.{value_at, value_put}
 use Rattle.raft_log.specs.Entries.{last_index, applied_number, in_log, term_at, number_at, values, last_is_empty, entry_put, entry_pushed, value_fits, value_appended, empty_place, empty_fits, empty_appended}
-use Rattle.raft_log.proofs.ValueLaws.{at_most_same, value_alike, length_value_put, value_put_before, value_put_other, value_put_same, Bytes}
-use Rattle.raft_log.proofs.LogLaws.{last_most, number_most, same_applied}
+use Rattle.raft_log.proofs.ValueLaws.{at_most_same, value_alike, length_value_put, value_put_before, value_put_other, value_put_same}
+use Rattle.raft_log.specs.Bytes.{Bytes}
+use Rattle.raft_log.proofs.LogLaws.{last_most, number_most, number_none, term_none, same_applied}
 
 in_log_true : (m : List ℕ) (i : ℕ) → 1 ≤ i → i ≤ last_index m → in_log m i ≡ true
 in_log_true m i a b = and_from (leb 1 i) (leb i (last_index m)) (le-leb 1 i a) (le-leb i (last_index m) b)
@@ -19,14 +20,6 @@ term_in m i a b = cond-true (in_log m i) (get_or m (entry_row i) 0) 0 (in_log_tr
 pub number_in : (m : List ℕ) (i : ℕ) → 1 ≤ i → i ≤ last_index m → number_at m i ≡ at_most (get_or m (entry_row i + 1) 0) 4096
 unfolding number_at
 number_in m i a b = cond-true (in_log m i) (at_most (get_or m (entry_row i + 1) 0) 4096) 0 (in_log_true m i a b)
-
-pub number_none : (m : List ℕ) → number_at m 0 ≡ 0
-unfolding number_at
-number_none m = refl
-
-pub term_none : (m : List ℕ) → term_at m 0 ≡ 0
-unfolding term_at
-term_none m = refl
 
 -- AN ENTRY IS PUSHED at i, behind the last or in its place
 module _ (m : List ℕ) (i t n : ℕ) (long : length m ≡ memory_words) (some : 1 ≤ i) (room : i ≤ 8193) where
@@ -77,20 +70,11 @@ module _ (m : List ℕ) (i t n : ℕ) (long : length m ≡ memory_words) (some :
   pub pushed_held : (k : ℕ) → value_at pushed k ≡ value_at m k
   pushed_held k = value_alike m pushed k (λ j a b. pushed_other j (omega arith) (omega arith) (omega arith))
 
-  pub pushed_applied : applied_number pushed ≡ applied_number m
-  pushed_applied = same_applied m pushed (pushed_other 66 (omega arith) (omega arith) (omega arith))
-
 -- a value that is put into a slot changes no entry
 module _ (m : List ℕ) (k : ℕ) (v : List ℕ) where
   pub put_last : last_index (value_put m k v) ≡ last_index m
   unfolding last_index
   put_last = ap (λ x. at_most x 8193) (value_put_before m k v 64 (omega arith))
-
-  pub put_terms : (i : ℕ) → i ≤ last_index m → term_at (value_put m k v) i ≡ term_at m i
-  put_terms zero b = term_none (value_put m k v) ∙ sym (term_none m)
-  put_terms (suc i) b =
-      term_in (value_put m k v) (suc i) (omega arith) (omega (arith, put_last))
-      ∙ (value_put_before m k v (entry_row (suc i)) (omega (arith, last_most m)) ∙ sym (term_in m (suc i) (omega arith) b))
 
   pub put_numbers : (i : ℕ) → i ≤ last_index m → number_at (value_put m k v) i ≡ number_at m i
   put_numbers zero b = number_none (value_put m k v) ∙ sym (number_none m)
@@ -138,22 +122,6 @@ module _ (m : List ℕ) (t : ℕ) (v : List ℕ) (long : length m ≡ memory_wor
   unfolding value_appended
   appended_last = pushed_last m₁ (last_index m + 1) t (values m + 1) put_long one within
 
-  pub appended_term : term_at (value_appended m t v) (last_index m + 1) ≡ t
-  unfolding value_appended
-  appended_term = pushed_term m₁ (last_index m + 1) t (values m + 1) put_long one within
-
-  pub appended_terms : (i : ℕ) → i ≤ last_index m → term_at (value_appended m t v) i ≡ term_at m i
-  unfolding value_appended
-  appended_terms i b =
-      pushed_terms m₁ (last_index m + 1) t (values m + 1) put_long one within i (omega arith) (omega (arith, put_last m (values m) v))
-      ∙ put_terms m (values m) v i b
-
-  pub appended_numbers : (i : ℕ) → i ≤ last_index m → number_at (value_appended m t v) i ≡ number_at m i
-  unfolding value_appended
-  appended_numbers i b =
-      pushed_numbers m₁ (last_index m + 1) t (values m + 1) put_long one within i (omega arith) (omega (arith, put_last m (values m) v))
-      ∙ put_numbers m (values m) v i b
-
   pub appended_values : values (value_appended m t v) ≡ values m + 1
   unfolding value_appended
   appended_values = pushed_values m₁ (last_index m + 1) t (values m + 1) put_long one within (omega (arith, fits_value))
@@ -193,10 +161,6 @@ module _ (m : List ℕ) (t : ℕ) (long : length m ≡ memory_words) (fits : emp
   unfolding empty_appended
   empty_last = pushed_last m (empty_place m) t (values m) long empty_some empty_room
 
-  pub empty_term : term_at (empty_appended m t) (empty_place m) ≡ t
-  unfolding empty_appended
-  empty_term = pushed_term m (empty_place m) t (values m) long empty_some empty_room
-
   pub empty_values : values (empty_appended m t) ≡ values m
   unfolding empty_appended
   empty_values = pushed_values m (empty_place m) t (values m) long empty_some empty_room (number_most m (last_index m))
@@ -211,10 +175,6 @@ module _ (m : List ℕ) (t : ℕ) (long : length m ≡ memory_words) (fits : emp
   pub empty_numbers : (j : ℕ) → j < empty_place m → j ≤ last_index m → number_at (empty_appended m t) j ≡ number_at m j
   unfolding empty_appended
   empty_numbers j l b = pushed_numbers m (empty_place m) t (values m) long empty_some empty_room j l b
-
-  pub empty_terms : (j : ℕ) → j < empty_place m → j ≤ last_index m → term_at (empty_appended m t) j ≡ term_at m j
-  unfolding empty_appended
-  empty_terms j l b = pushed_terms m (empty_place m) t (values m) long empty_some empty_room j l b
 
 -- ROOM: no two empty entries stand side by side, so there are few
 abbrev pub Roomy : List ℕ → Type 0

@@ -4,11 +4,12 @@ use mathlib.Core.Option.{none, some}
 use Rattle.std.proofs.lemmas.List.{take_all}
 use Rattle.std.proofs.lemmas.Bool.{and_parts, and_left, eqb-true, le-leb, lt-leb, cond-true, cond-false, cases_Bool}
 use Rattle.raft_log.specs.Layout.{memory_words}
+use Rattle.raft_log.specs.Bytes.{Bytes}
 use Rattle.raft_log.specs.Values.{value_at, value_put}
 use Rattle.raft_log.specs.Entries.{last_index, number_at, values, last_is_empty, entry_pushed, value_fits, value_appended, empty_place, empty_fits, empty_appended}
 use Rattle.raft_log.specs.Block.{Entry}
 use Rattle.raft_log.specs.View.{entry, content_between, log_of, TidyEntries, Tidy, no_entry, is_none, renew_place, renewed}
-use Rattle.raft_log.proofs.ValueLaws.{Bytes, length_value_put, value_put_before, value_put_other, value_put_same}
+use Rattle.raft_log.proofs.ValueLaws.{length_value_put, value_put_before, value_put_other, value_put_same}
 use Rattle.raft_log.proofs.LogLaws.{number_most}
 use Rattle.raft_log.proofs.AppendLaws.{put_last, put_numbers, fits_short, fits_entry, fits_value, appended_header, appended_last, empty_header, empty_last, empty_room}
 use Rattle.raft_log.proofs.ViewLaws.{content_none, content_some, length_log, log_at}

@@ -1,16 +1,18 @@
 -- What each change of a memory makes of the log that it stands for.
-use Rattle.std.proofs.Common.{◌≡◌, ℕ, zero, suc, ◌+◌, ◌-◌, ◌<◌, ◌≤◌, ltb, leb, ◌≢◌, List, [], ◌∷◌, ◌++◌, length, get_or, take, set, sym, refl, ap, ◌∙◌, inl, inr, arith}
+use Rattle.std.proofs.Common.{◌≡◌, ℕ, zero, suc, ◌+◌, ◌-◌, ◌<◌, ◌≤◌, ltb, leb, ◌≢◌, List, [], ◌∷◌, ◌++◌, map, length, get_or, take, set, sym, refl, ap, ◌∙◌, inl, inr, arith}
 use mathlib.Core.Option.{some}
 use Rattle.std.proofs.lemmas.List.{length-set, get_or-set_same, get_or-set_other}
 use Rattle.std.proofs.lemmas.Bool.{leb-true, and_parts, cond_both, cases_eq}
+use Rattle.std.specs.List.{range_with_len}
 use Rattle.raft_log.specs.Layout.{memory_words, at_most, entry_row}
+use Rattle.raft_log.specs.Block.{log_entry, log_entries}
 use Rattle.raft_log.specs.Values.{value_at}
 use Rattle.raft_log.specs.Entries.{last_index, commit_index, term_at, number_at, values, entry_put, entry_pushed, commit_rises, commit_raised, applied_set}
 use Rattle.raft_log.specs.Accept.{truncated}
 use Rattle.raft_log.specs.View.{entry, content_between, entry_of, entries_of, log_of, Rises, TidyEntries, Tidy}
 use Rattle.raft_log.proofs.ValueLaws.{at_most_same, value_alike}
-use Rattle.raft_log.proofs.LogLaws.{SameEntries, same_entries, last_most, commit_raised_entries, commit_raised_other, length_commit_raised, applied_set_entries, applied_set_other, length_applied_set}
-use Rattle.raft_log.proofs.AppendLaws.{term_in, number_in, number_none, term_none, length_pushed, pushed_other, pushed_last, pushed_term, pushed_number, pushed_terms, pushed_numbers, pushed_held}
+use Rattle.raft_log.proofs.LogLaws.{SameEntries, same_entries, last_most, number_none, term_none, commit_raised_entries, commit_raised_other, length_commit_raised, applied_set_entries, applied_set_other, length_applied_set}
+use Rattle.raft_log.proofs.AppendLaws.{term_in, number_in, length_pushed, pushed_other, pushed_last, pushed_term, pushed_number, pushed_terms, pushed_numbers, pushed_held}
 use Rattle.raft_log.proofs.ViewLaws.{content_none, content_some, entries_alike, entries_more, take_log, number_up}
 
 -- two entries are the same by their term, their numbers and the value in their slot
@@ -79,6 +81,14 @@ same_log m m₁ s =
     ∙ (entries_alike m m₁ (last_index m) (λ j l. cc (s.terms (suc j), s.numbers j, s.numbers (suc j), s.held (number_at m (suc j) - 1)))
     ∙ sym (log_is m (last_index m) refl))
 
+-- so what a sender reads for a block is the same
+log_entry_same : (m m₁ : List ℕ) → SameEntries m m₁ → (i : ℕ) → log_entry m₁ i ≡ log_entry m i
+log_entry_same m m₁ s i = cc (s.terms i, s.numbers i, s.numbers (i - 1), s.held (number_at m i - 1))
+
+pub log_entries_same : (m m₁ : List ℕ) → SameEntries m m₁ → (p n : ℕ) → log_entries m₁ p n ≡ log_entries m p n
+unfolding log_entries
+log_entries_same m m₁ s p n = λ i. map (λ (k : ℕ). log_entry_same m m₁ s k i) (range_with_len p n)
+
 pub same_tidy :
     (m m₁ : List ℕ) → length m₁ ≡ length m → get_or m₁ 64 0 ≡ get_or m 64 0 → ((i : ℕ) → 72 ≤ i → get_or m₁ i 0 ≡ get_or m i 0) → TidyEntries m → TidyEntries m₁
 same_tidy m m₁ l e rows t = rows_tidy m m₁ (λ i a b. rows i a) l (omega (arith, t.last)) (omega (arith, last_word m m₁ e)) t
@@ -120,7 +130,7 @@ module _ (m : List ℕ) (k : ℕ) where
   pub applied_set_log : log_of (applied_set m k) ≡ log_of m
   applied_set_log = same_log m (applied_set m k) (applied_set_entries m k)
 
-  applied_set_word : length m ≡ memory_words → get_or (applied_set m k) 66 0 ≡ k
+  pub applied_set_word : length m ≡ memory_words → get_or (applied_set m k) 66 0 ≡ k
   unfolding applied_set
   applied_set_word l = get_or-set_same m 66 k 0 (omega arith)
 

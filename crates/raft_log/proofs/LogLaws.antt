@@ -4,7 +4,7 @@ use Rattle.std.proofs.lemmas.List.{length-set, get_or-set_same, get_or-set_other
 use Rattle.std.proofs.lemmas.Bool.{le-leb, and_from, cond-true, cond-false, cond_both, cases_Bool, cases_lt, lt-ltb, true≢false}
 use Rattle.raft_log.specs.Layout.{memory_words, at_most, entry_row}
 use Rattle.raft_log.specs.Values.{value_at}
-use Rattle.raft_log.specs.Entries.{last_index, commit_index, applied_number, in_log, term_at, number_at, commit_rises, commit_raised, applied_set}
+use Rattle.raft_log.specs.Entries.{last_index, commit_index, applied_number, in_log, term_at, number_at, decided, commit_rises, commit_raised, applied_set}
 use Rattle.raft_log.proofs.ValueLaws.{at_most_le, at_most_same, value_alike}
 
 -- what is read is bounded
@@ -24,6 +24,15 @@ pub number_most : (m : List ℕ) (i : ℕ) → number_at m i ≤ 4096
 unfolding number_at
 number_most m i =
     cond_both (in_log m i) (at_most (get_or m (entry_row i + 1) 0) 4096) 0 (λ x. x ≤ 4096) (λ e. at_most_le (get_or m (entry_row i + 1) 0) 4096) (λ e. omega arith)
+
+-- before the first entry there is none
+pub number_none : (m : List ℕ) → number_at m 0 ≡ 0
+unfolding number_at
+number_none m = refl
+
+pub term_none : (m : List ℕ) → term_at m 0 ≡ 0
+unfolding term_at
+term_none m = refl
 
 -- the entries and values are the same
 pub record SameEntries (m m₁ : List ℕ) : Type 0 where
@@ -53,6 +62,9 @@ same_entries m m₁ e rows = record { last = last; terms = terms; numbers = numb
 pub same_commit : (m m₁ : List ℕ) → SameEntries m m₁ → get_or m₁ 65 0 ≡ get_or m 65 0 → commit_index m₁ ≡ commit_index m
 unfolding commit_index
 same_commit m m₁ s e = ap (λ x. at_most x (last_index m₁)) e ∙ ap (at_most (get_or m 65 0)) s.last
+
+pub same_decided : (m m₁ : List ℕ) → SameEntries m m₁ → commit_index m₁ ≡ commit_index m → decided m₁ ≡ decided m
+same_decided m m₁ s e = ap (number_at m₁) e ∙ s.numbers (commit_index m)
 
 pub same_applied : (m m₁ : List ℕ) → get_or m₁ 66 0 ≡ get_or m 66 0 → applied_number m₁ ≡ applied_number m
 unfolding applied_number

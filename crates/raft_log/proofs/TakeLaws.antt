@@ -101,9 +101,6 @@ module _ (bs : List ℕ) (n i : ℕ) (ok : block_fits bs n ≡ true) (less : i <
       let r : a + b - a ≡ row_length bs i = omega arith in
       ap (λ k. take k (drop a bs)) r ∙ ap (λ k. take (row_length bs i) (drop k bs)) p
 
-  pub value_cut_short : (a b : ℕ) → a ≡ value_offset bs n i → b ≡ row_length bs i → length (take (a + b - a) (drop a bs)) ≤ 256
-  value_cut_short a b p q = omega (arith, ap length (value_cut a b p q), value_short)
-
 -- ENTRY i of those that there is room for
 module _ (m : List ℕ) (es : List Entry) (i : ℕ) (less : i < length es) (room : entries_fit m (drop i es) ≡ true) where
   room_here : entries_fit m (entry_in es i ∷ drop (i + 1) es) ≡ true

@@ -5,6 +5,7 @@ use Rattle.std.proofs.lemmas.List.FromFn.{length-map-range_with_len, get_or-map-
 use Rattle.std.proofs.lemmas.Bool.{ltb-true, ltb-false, cond_both, cases_eq, cases_order}
 use Rattle.raft_log.specs.Layout.{memory_words, at_most, value_row}
 use Rattle.raft_log.specs.Values.{byte_in, byte_at, bytes_at, value_length, value_at, byte_or, word_of, words_put, words_for, value_put}
+use Rattle.raft_log.specs.Bytes.{Bytes}
 
 pub at_most_le : (n limit : ℕ) → at_most n limit ≤ limit
 at_most_le n limit = cond_both (ltb n limit) n limit (λ x. x ≤ limit) (λ e. omega (arith, ltb-true n limit e)) (λ e. omega arith)
@@ -128,10 +129,6 @@ module _ (v : List ℕ) (j : ℕ) where
   byte_in_word (suc (suc (suc (suc (suc (suc (suc zero))))))) l =
       byte_7 (byte_or v (8 * j)) (at 1) (at 2) (at 3) (at 4) (at 5) (at 6) (at 7) (low _) (low _) (low _) (low _) (low _) (low _) (low _) (low _)
   byte_in_word (suc (suc (suc (suc (suc (suc (suc (suc r)))))))) l = absurd (omega arith)
-
--- every element of a row is a byte
-abbrev pub Bytes : List ℕ → Type 0
-Bytes v = (i : ℕ) → get_or v i 0 < 256
 
 module _ (m : List ℕ) (k : ℕ) (v : List ℕ) (long : length m ≡ memory_words) (room : k < 4096) (short : length v ≤ 256) (bytes : Bytes v) where
   put_length : get_or (value_put m k v) (value_row k) 0 ≡ length v

@@ -10,6 +10,7 @@ use Rattle.raft_log.specs.Values.{value_at}
 use Rattle.raft_log.specs.Entries.{last_index, in_log, term_at, number_at}
 use Rattle.raft_log.specs.Block.{Entry, log_entry, log_entries}
 use Rattle.raft_log.specs.View.{content_between, entry_of, entries_of, log_of, Rises, TidyEntries, no_entry, term_before, with_content, decisions}
+use Rattle.raft_log.proofs.LogLaws.{number_none, term_none}
 
 -- WHAT AN ENTRY HOLDS
 pub content_none : (m : List ℕ) (a b : ℕ) → b ≡ a → content_between m a b ≡ none
@@ -55,13 +56,9 @@ term_past : (m : List ℕ) (i : ℕ) → last_index m < i → term_at m i ≡ 0
 unfolding term_at
 term_past m i l = cond-false (in_log m i) (get_or m (entry_row i) 0) 0 (and_right (leb 1 i) (leb i (last_index m)) (lt-leb i (last_index m) l))
 
-term_first : (m : List ℕ) → term_at m 0 ≡ 0
-unfolding term_at
-term_first m = refl
-
 -- the term at an index is that of the log
 pub log_term : (m : List ℕ) (i : ℕ) → term_before (log_of m) i ≡ term_at m i
-log_term m zero = sym (term_first m)
+log_term m zero = sym (term_none m)
 log_term m (suc j) =
     elim (cases_lt j (last_index m)) [
       | inl l ↦ ap (λ (e : Entry). e.term) (log_at m j no_entry l)
@@ -101,17 +98,13 @@ slots_next m a b r =
           ∙ (ap (λ k. slots m a ++ value_at m k ∷ []) p ∙ (slots_more m a ∙ ap (slots m) (sym s)))
     ]
 
-number_first : (m : List ℕ) → number_at m 0 ≡ 0
-unfolding number_at
-number_first m = refl
-
 none_first : (m : List ℕ) → decisions (entries_of m 0) ≡ []
 unfolding decisions entries_of
 none_first m = refl
 
 -- DECISIONS: the first entries hold the values in the first slots, as many as are counted up to there
 pub decisions_first : (m : List ℕ) → TidyEntries m → (n : ℕ) → n ≤ last_index m → decisions (entries_of m n) ≡ slots m (number_at m n)
-decisions_first m t zero b = none_first m ∙ sym (ap (slots m) (number_first m))
+decisions_first m t zero b = none_first m ∙ sym (ap (slots m) (number_none m))
 decisions_first m t (suc n) b =
     ap decisions (entries_more m n)
     ∙ (decisions_push (entries_of m n) (entry_of m n)

@@ -3,3 +3,7 @@ pub mod Lists
 pub mod Halves
 pub mod Rows
 pub mod Steps
+pub mod Starts
+pub mod Decisions
+pub mod Smalls
+pub mod KeptLogs

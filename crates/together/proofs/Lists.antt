@@ -1,7 +1,13 @@
--- Lists under a test: every, any, those that pass it, and the same row of numbers.
-use Rattle.std.proofs.Common.{◌≡◌, ℕ, zero, suc, ◌<◌, Bool, true, false, cond, eqb, List, [], ◌∷◌, ◌++◌, length, get_or, filter, sym, refl, ap, ◌∙◌, subst, arith}
-use Rattle.std.proofs.lemmas.Bool.{and_parts, and_from, eqb-true, eq-eqb, true≢false, false≢true}
-use Rattle.together.specs.House.{pick, or, every, any, those, same}
+-- Lists under a test: every, any, those that pass it, the same row of numbers, rows of bytes; and the larger of two numbers.
+use Rattle.std.proofs.Common.{◌≡◌, ℕ, zero, suc, ◌<◌, ◌≤◌, Bool, true, false, cond, eqb, ltb, List, [], ◌∷◌, ◌++◌, length, get_or, filter, set, sym, refl, ap, ◌∙◌, subst, arith}
+use Rattle.std.proofs.lemmas.Bool.{ltb-true, ltb-false, lt-ltb, and_parts, and_from, eqb-true, eq-eqb, true≢false, false≢true}
+use Rattle.raft_log.specs.Bytes.{Bytes}
+use Rattle.together.specs.House.{pick, or, every, any, those, same, larger}
+use Rattle.together.specs.Promise.{are_bytes}
+
+-- no number is the one before it
+pub no_way : {A : Type 0} → ◌≡◌ {A = ℕ} 0 1 → A
+no_way e = absurd (omega arith)
 
 pub or_left : (x y : Bool) → x ≡ true → or x y ≡ true
 or_left x y e = ap (λ t. or t y) e
@@ -40,11 +46,24 @@ module _ {A : Type 0} (p : A → Bool) where
       let parts = and_parts (p x) (every p xs) h in
       and_from (p x) (every p (xs ++ ys)) parts.0 (every_append xs ys parts.1 k)
 
+  pub every_set : (xs : List A) (i : ℕ) (x : A) → p x ≡ true → every p xs ≡ true → every p (set xs i x) ≡ true
+  unfolding every
+  every_set [] i x e h = h
+  every_set (y ∷ ys) zero x e h = and_from (p x) (every p ys) e (and_parts (p y) (every p ys) h).1
+  every_set (y ∷ ys) (suc i) x e h =
+      let parts = and_parts (p y) (every p ys) h in
+      and_from (p y) (every p (set ys i x)) parts.0 (every_set ys i x e parts.1)
+
   pub any_at : (xs : List A) (d : A) (i : ℕ) → i < length xs → p (get_or xs i d) ≡ true → any p xs ≡ true
   unfolding any
   any_at [] d i l e = absurd (omega arith)
   any_at (x ∷ xs) d zero l e = or_left (p x) (any p xs) e
   any_at (x ∷ xs) d (suc i) l e = or_right (p x) (any p xs) (any_at xs d i (omega arith) e)
+
+  pub any_later : (xs ys : List A) → any p ys ≡ true → any p (xs ++ ys) ≡ true
+  unfolding any
+  any_later [] ys e = e
+  any_later (x ∷ xs) ys e = or_right (p x) (any p (xs ++ ys)) (any_later xs ys e)
 
   pub any_append : (xs ys : List A) → any p xs ≡ false → any p ys ≡ false → any p (xs ++ ys) ≡ false
   unfolding any
@@ -101,3 +120,37 @@ pub same_self : (xs : List ℕ) → same xs xs ≡ true
 unfolding same
 same_self [] = refl
 same_self (x ∷ xs) = and_from (eqb x x) (same xs xs) (eq-eqb x x refl) (same_self xs)
+
+-- rows of bytes, by a test and by each place
+pub are_bytes_from : (bs : List ℕ) → Bytes bs → are_bytes bs ≡ true
+unfolding every
+are_bytes_from [] h = refl
+are_bytes_from (b ∷ bs) h = and_from (ltb b 256) (are_bytes bs) (lt-ltb b 256 (h 0)) (are_bytes_from bs (λ i. h (suc i)))
+
+pub bytes_from : (bs : List ℕ) → are_bytes bs ≡ true → Bytes bs
+unfolding every
+bytes_from [] h i = omega arith
+bytes_from (b ∷ bs) h zero = ltb-true b 256 (and_parts (ltb b 256) (are_bytes bs) h).0
+bytes_from (b ∷ bs) h (suc i) = bytes_from bs (and_parts (ltb b 256) (are_bytes bs) h).1 i
+
+-- the larger of two numbers
+pub larger_left : (a b : ℕ) → a ≤ larger a b
+larger_left a b = go (ltb a b) refl
+  where
+    go : (t : Bool) → ltb a b ≡ t → a ≤ pick t b a
+    go true e = omega (arith, ltb-true a b e)
+    go false e = omega arith
+
+pub larger_right : (a b : ℕ) → b ≤ larger a b
+larger_right a b = go (ltb a b) refl
+  where
+    go : (t : Bool) → ltb a b ≡ t → b ≤ pick t b a
+    go true e = omega arith
+    go false e = omega (arith, ltb-false a b e)
+
+pub larger_le : (a b n : ℕ) → a ≤ n → b ≤ n → larger a b ≤ n
+larger_le a b n p q = go (ltb a b)
+  where
+    go : (t : Bool) → pick t b a ≤ n
+    go true = q
+    go false = p

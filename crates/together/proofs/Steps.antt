@@ -1,8 +1,8 @@
 -- What the parts of a machine do at an event is what its step does.
-use Rattle.std.proofs.Common.{◌≡◌, ℕ, Bool, true, false, List, Ok, Err, Result, refl, sym, subst}
+use Rattle.std.proofs.Common.{◌≡◌, ℕ, Bool, true, false, List, Ok, Err, Result, refl, subst}
 use Rattle.raft.specs.declared.proposal.Refusal.{Refusal}
 use Rattle.together.specs.declared.Told.{Told}
-use Rattle.together.specs.House.{Command, propose, how_far}
+use Rattle.together.specs.House.{propose, how_far}
 use Rattle.together.specs.Promise.{Event, on, said, came, tick, next, Step}
 use Rattle.together.specs.Machine.{own_step, after_proposal as after_own}
 use Rattle.together.specs.Entry.{event_of, Did, StepSays, own}

@@ -1,5 +1,5 @@
 -- The machine keeps to its plan: first memory is made safe, then what is decided is applied.
-use Rattle.std.proofs.Common.{◌≡◌, ℕ, zero, suc, ◌+◌, ◌-◌, ◌<◌, ◌≤◌, true, false, cond, List, [], ◌∷◌, ◌++◌, length, Some, None, sym, refl, ap, ◌∙◌, subst, inl, inr, arith}
+use Rattle.std.proofs.Common.{◌≡◌, ℕ, suc, ◌+◌, ◌-◌, ◌<◌, ◌≤◌, true, false, cond, List, [], ◌∷◌, ◌++◌, length, Some, None, sym, refl, ap, ◌∙◌, inl, inr, arith}
 use Rattle.std.proofs.lemmas.Bool.{lt-ltb, le-ltb, cond-true, cond-false, cases_Bool, cases_lt}
 use Rattle.raft_log.specs.Layout.{memory_words}
 use Rattle.raft_log.specs.Values.{value_at}
@@ -11,10 +11,11 @@ use Rattle.solo.specs.Header.{loaded, stored}
 use Rattle.solo.specs.Apply.{advanced}
 use Rattle.raft.specs.Apply.{settled, applied_up_to, due}
 use Rattle.solo.proofs.HeaderLaws.{Held, loaded_held, loaded_stored, loaded_alike, length_stored, stored_entries, stored_commit, stored_applied}
-use Rattle.together.specs.Promise.{Act, settle, applies, done, next, Step}
+use Rattle.together.specs.Promise.{settle, applies, done, next}
 use Rattle.together.specs.Machine.{answer, apply_due, go_on, own_step, decisions_from, acts}
 use Rattle.together.specs.Entry.{own}
-use Rattle.whole.proofs.Plans.{Planned, PlannedAct}
+use Rattle.together.proofs.Decisions.{same_decisions}
+use Rattle.whole.proofs.Plans.{Planned, Turn, acting, ending, planned}
 
 -- memories that the machine runs on
 abbrev pub Long : List ℕ → Type 0
@@ -34,11 +35,6 @@ same_decided m m₁ s = ap (number_at m₁) s.commit ∙ s.entries.numbers (comm
 
 pub stored_log : (m : List ℕ) (x : Machine Role) → SameLog m (stored m x)
 stored_log m x = record { entries = stored_entries m x; commit = stored_commit m x }
-
-same_decisions : (m m₁ : List ℕ) → SameEntries m m₁ → (k n : ℕ) → decisions_from m₁ k n ≡ decisions_from m k n
-unfolding decisions_from
-same_decisions m m₁ s k zero = refl
-same_decisions m m₁ s k (suc n) = ap (λ v. applies (k + 1) v ∷ decisions_from m₁ (k + 1) n) (s.held k) ∙ ap (λ x. applies (k + 1) (value_at m k) ∷ x) (same_decisions m m₁ s (k + 1) n)
 
 pub acts_still : (m : List ℕ) → (loaded m).unsettled ≡ false → acts m ≡ decisions_from m (applied_number m) (decided m - applied_number m)
 unfolding acts
@@ -142,57 +138,19 @@ goes m =
       | inr u ↦ elim (cases_lt (applied_number m) (decided m)) [ inl l ↦ applying u l | inr l ↦ resting u l ]
     ]
 
-own_next : (m : List ℕ) → own.step m next ≡ go_on m
+pub own_next : (m : List ℕ) → own.step m next ≡ go_on m
 unfolding own own_step
 own_next m = refl
 
--- one act and what is left after it, by its memory, the act and the plan
-pub record First (m : List ℕ) (a : Act) (as₁ : List Act) : Type 0 where
-  pub step : go_on m ≡ answer (rest m) a
-  pub then : acts (rest m) ≡ as₁
-  pub long : Long (rest m)
-  pub good : PlannedAct a
-
-no_way : {A : Type 0} → ◌≡◌ {A = ℕ} 0 1 → A
-no_way e = absurd (omega arith)
-
-first : (m : List ℕ) (a : Act) (as₁ : List Act) → Long m → acts m ≡ a ∷ as₁ → First m a as₁
-unfolding rest
-first m a as₁ long eq = by (goes m)
+turn : (m : List ℕ) → Long m → Turn go_on Long acts m
+turn m long = by (goes m)
   where
-    this : (m₁ : List ℕ) (a₁ : Act) → Long m₁ → PlannedAct a₁ → go_on m ≡ answer m₁ a₁ → acts m ≡ a₁ ∷ acts m₁ → First m a as₁
-    this m₁ a₁ l p g e =
-        let ea : a₁ ≡ a = cc in
-        let es : acts m₁ ≡ as₁ = cc in
-        let em : (go_on m).memory ≡ m₁ = ap (λ (s : Step). s.memory) g in
-        record {
-          step = g ∙ (ap (λ x. answer x a₁) (sym em) ∙ ap (answer (go_on m).memory) ea);
-          then = ap acts em ∙ es;
-          long = subst (λ (x : List ℕ). Long x) (sym em) l;
-          good = subst (λ (x : Act). PlannedAct x) ea p;
-        }
-
-    by : Goes m → First m a as₁
-    by (settling u) = this (safe m long) settle (safe_long m long) tt (go_settle m long u) (acts_settle m long u)
-    by (applying u l) = this (onward m long) (applies (applied_number m + 1) (value_at m (applied_number m))) (onward_long m long) tt (go_apply m long u l) (acts_apply m long u l)
-    by (resting u l) = let e : [] ≡ a ∷ as₁ = sym (acts_done m long u l) ∙ eq in no_way cc
-
-nothing_left : (m : List ℕ) → Long m → acts m ≡ [] → go_on m ≡ answer m done
-nothing_left m long eq = by (goes m)
-  where
-    by : Goes m → go_on m ≡ answer m done
-    by (settling u) = let e : settle ∷ acts (safe m long) ≡ [] = sym (acts_settle m long u) ∙ eq in no_way cc
-    by (applying u l) =
-        let e : applies (applied_number m + 1) (value_at m (applied_number m)) ∷ acts (onward m long) ≡ [] = sym (acts_apply m long u l) ∙ eq in no_way cc
-    by (resting u l) = go_done m long u l
+    by : Goes m → Turn go_on Long acts m
+    by (settling u) = acting (safe m long) settle (safe_long m long) tt (go_settle m long u) (acts_settle m long u)
+    by (applying u l) = acting (onward m long) (applies (applied_number m + 1) (value_at m (applied_number m))) (onward_long m long) tt (go_apply m long u l) (acts_apply m long u l)
+    by (resting u l) = ending (go_done m long u l) (acts_done m long u l)
 
 -- THE PLAN of the machine
 pub own_planned : Planned own Long acts rest
-own_planned =
-    record {
-      none = λ m l e. own_next m ∙ nothing_left m l e;
-      some = λ m a as₁ l e. own_next m ∙ (first m a as₁ l e).step;
-      then = λ m a as₁ l e. (first m a as₁ l e).then;
-      fits = λ m a as₁ l e. (first m a as₁ l e).long;
-      good = λ m a as₁ l e. (first m a as₁ l e).good;
-    }
+unfolding rest
+own_planned = planned own go_on Long acts own_next turn

@@ -25,6 +25,7 @@ use Rattle.together.specs.Promise.{last_since, are_bytes}
 use Rattle.whole.proofs.Acts.{Long, SameLog, stored_log}
 use Rattle.whole.proofs.Holds.{Holds, holds_same, holds_led, holds_taken}
 use Rattle.whole.proofs.Going.{Stable, Going, Rests}
+use Rattle.raft.proofs.HeaderLaws.{older_most}
 
 not_leader : {A : Type 0} (e : Ticks) → Follower e ≡ Leader → A
 not_leader e q = absurd (let z : ◌≡◌ {A = ℕ} 0 1 = cc in omega arith)
@@ -110,9 +111,6 @@ module _ (many h k : ℕ) (ps : List (List ℕ)) (o : List ℕ) (m : List ℕ) (
         cond_both (ltb e.0 10) (stored m (with_role x role)) (next_term_entered m x) (λ y. GoesOn y)
         (λ _. in_role (with_role x role) (record { some = (loaded_held m).some; waits = w }) refl refl leads (omega (arith, r.going.term)) refl)
         (λ _. cond_both (ltb x.term.0 18446744073709551615) (term_entered m x (x.term.0 + 1)) m (λ y. GoesOn y) (λ _. enters (x.term.0 + 1) (omega (arith, r.going.term))) (λ _. stays))
-
-    older_most : (e : Ticks) → (older e).0 ≤ 10
-    older_most e = cond_both (ltb e.0 10) (ticks (e.0 + 1)) (ticks 10) (λ y. y.0 ≤ 10) (λ l. omega (arith, ltb-true e.0 10 l)) (λ _. omega arith)
 
     ticks_as : (role : Role) → GoesOn (tick_as m x role)
     ticks_as (Follower e) = waits (older e) (Follower (older e)) (older_most e) (not_leader (older e))

@@ -1,6 +1,6 @@
 -- A machine whose log is what the order says does what is due: it applies in turn, by the order, and what is safe stays right at each act.
-use Rattle.std.proofs.Common.{◌≡◌, ℕ, zero, suc, ◌+◌, ◌-◌, ◌<◌, ◌≤◌, Bool, true, false, cond, ◌&&◌, ltb, leb, ◌⊎◌, List, [], ◌∷◌, ◌++◌, length, get_or, sym, refl, ap, ◌∙◌, subst, inl, inr, arith}
-use Rattle.std.proofs.lemmas.Bool.{ltb-true, ltb-false, le-leb, eq-eqb, and_from, true≢false}
+use Rattle.std.proofs.Common.{◌≡◌, ℕ, zero, suc, ◌+◌, ◌-◌, ◌<◌, ◌≤◌, Bool, true, false, cond, ◌⊎◌, List, [], ◌∷◌, ◌++◌, length, sym, refl, ap, ◌∙◌, subst, inl, inr, arith}
+use Rattle.std.proofs.lemmas.Bool.{eq-eqb, and_from, true≢false}
 use Rattle.raft_log.specs.Values.{value_at}
 use Rattle.raft_log.specs.Entries.{commit_index, applied_number, decided}
 use Rattle.raft_log.proofs.LogLaws.{number_most}
@@ -10,22 +10,21 @@ use Rattle.raft.specs.declared.header.Machine.{Machine}
 use Rattle.solo.specs.Header.{loaded}
 use Rattle.raft.specs.Apply.{settled}
 use Rattle.solo.proofs.HeaderLaws.{stored_applied}
-use Rattle.together.specs.House.{pick, every, same, Applied, applied, Far, next_ok, may_apply, larger, got_to, all_in_turn, far_after, nth_value, by_order}
+use Rattle.together.specs.House.{every, Applied, applied, Far, next_ok, may_apply, got_to, all_in_turn, far_after, by_order}
 use Rattle.together.specs.Promise.{Act, settle, Step, Ran, ran, last_since}
 use Rattle.together.specs.Machine.{decisions_from, acts}
 use Rattle.together.specs.Entry.{own}
 use Rattle.whole.proofs.Plans.{end_done, outcome, memory_after, stable_after, end_after, first_acts, letters_in, decisions_in}
 use Rattle.whole.proofs.Acts.{Long, rest, Goes, settling, applying, resting, goes, safe, safe_loaded, safe_long, stored_log, same_decided, go_settle, acts_settle, onward, onward_loaded, onward_long, onward_log, onward_applied, go_apply, acts_apply, acts_done, own_planned}
 use Rattle.whole.proofs.Holds.{Holds, holds_decided, holds_same}
-use Rattle.whole.proofs.Orders.{same_self}
+use Rattle.together.proofs.Lists.{larger_left, larger_right, larger_le}
+use Rattle.together.proofs.Decisions.{decisions_many}
+use Rattle.whole.proofs.Orders.{by_next}
+use Rattle.whole.proofs.Plans.{applies_first}
 
 -- what at most n acts make of memory m, of which s is stable
 abbrev pub made : ℕ → List ℕ → List ℕ → Ran
 made n m s = outcome own Long acts rest own_planned n (acts m) m s [] [] []
-
--- it did this first
-abbrev pub after_first : Applied → Ran → Ran
-after_first a r = ran r.memory r.stable r.flew (a ∷ r.did) r.showed r.end
 
 pub made_none : (m s : List ℕ) → made 0 m s ≡ ran m s [] [] [] 1000
 unfolding memory_after stable_after end_after first_acts letters_in decisions_in
@@ -44,22 +43,17 @@ module _ (n : ℕ) (m s : List ℕ) (long : Long m) where
       ap out_suc (acts_settle m long u) ∙ ap (λ (x : Step). out (acts (safe m long)) x.memory x.memory) (go_settle m long u)
 
   made_apply : (loaded m).unsettled ≡ false → applied_number m < decided m →
-      made (suc n) m s ≡ after_first (applied (applied_number m + 1) (value_at m (applied_number m))) (made n (onward m long) s)
+      made (suc n) m s ≡ applies_first (applied (applied_number m + 1) (value_at m (applied_number m))) (made n (onward m long) s)
   unfolding memory_after stable_after end_after first_acts letters_in decisions_in rest
   made_apply u l =
       ap out_suc (acts_apply m long u l)
-      ∙ ap (λ (x : Step). after_first (applied (applied_number m + 1) (value_at m (applied_number m))) (out (acts (onward m long)) x.memory s)) (go_apply m long u l)
+      ∙ ap (λ (x : Step). applies_first (applied (applied_number m + 1) (value_at m (applied_number m))) (out (acts (onward m long)) x.memory s)) (go_apply m long u l)
 
   made_rest : (loaded m).unsettled ≡ false → decided m ≤ applied_number m → made (suc n) m s ≡ ran m s [] [] [] 0
   unfolding memory_after stable_after end_after first_acts letters_in decisions_in
   made_rest u l = ap out_suc (acts_done m long u l)
 
 -- few acts are due
-decisions_many : (m : List ℕ) (k n : ℕ) → length (decisions_from m k n) ≡ n
-unfolding decisions_from
-decisions_many m k zero = refl
-decisions_many m k (suc n) = ap suc (decisions_many m (k + 1) n)
-
 pub acts_few : (m : List ℕ) → length (acts m) ≤ 4097
 unfolding acts
 acts_few m = go (loaded m).unsettled
@@ -67,27 +61,6 @@ acts_few m = go (loaded m).unsettled
     go : (b : Bool) → length (cond b (settle ∷ []) [] ++ decisions_from m (applied_number m) (decided m - applied_number m)) ≤ 4097
     go true = omega (arith, decisions_many m (applied_number m) (decided m - applied_number m), number_most m (commit_index m))
     go false = omega (arith, decisions_many m (applied_number m) (decided m - applied_number m), number_most m (commit_index m))
-
-larger_left : (a b : ℕ) → a ≤ larger a b
-larger_left a b = go (ltb a b) refl
-  where
-    go : (t : Bool) → ltb a b ≡ t → a ≤ pick t b a
-    go true e = omega (arith, ltb-true a b e)
-    go false e = omega arith
-
-larger_right : (a b : ℕ) → b ≤ larger a b
-larger_right a b = go (ltb a b) refl
-  where
-    go : (t : Bool) → ltb a b ≡ t → b ≤ pick t b a
-    go true e = omega arith
-    go false e = omega (arith, ltb-false a b e)
-
-larger_le : (a b n : ℕ) → a ≤ n → b ≤ n → larger a b ≤ n
-larger_le a b n p q = go (ltb a b)
-  where
-    go : (t : Bool) → pick t b a ≤ n
-    go true = q
-    go false = p
 
 -- machine h of many, when at most k terms have begun; the order o of what was proposed, ps
 module _ (many h k : ℕ) (ps : List (List ℕ)) (o : List ℕ) where
@@ -191,13 +164,9 @@ module _ (many h k : ℕ) (ps : List (List ℕ)) (o : List ℕ) where
     stable_onward s g₁ = record { holds = g₁.holds; applied = omega (arith, g₁.applied, larger_left f.ever (j + 1)); term = g₁.term }
 
     by_it : by_order ps o (applied (j + 1) (value_at m j)) ≡ true
-    by_it =
-        let v : value_at m j ≡ nth_value ps (get_or o (j + 1 - 1) 0) = g.holds.held j within ∙ ap (λ i. nth_value ps (get_or o i 0)) (let q : j ≡ j + 1 - 1 = omega arith in q) in
-        and_from (leb 1 (j + 1) && leb (j + 1) (length o)) (same (value_at m j) (nth_value ps (get_or o (j + 1 - 1) 0)))
-        (and_from (leb 1 (j + 1)) (leb (j + 1) (length o)) (le-leb 1 (j + 1) (omega arith)) (le-leb (j + 1) (length o) (omega (arith, within))))
-        (subst (λ (x : List ℕ). same (value_at m j) x ≡ true) v (same_self (value_at m j)))
+    by_it = by_next ps o j (value_at m j) within (g.holds.held j within)
 
-    fine_first : (r : Ran) → Fine (got_to f (j + 1)) r → Fine f (after_first (applied (j + 1) (value_at m j)) r)
+    fine_first : (r : Ran) → Fine (got_to f (j + 1)) r → Fine f (applies_first (applied (j + 1) (value_at m j)) r)
     unfolding all_in_turn far_after every
     fine_first r z =
         record {
@@ -254,12 +223,12 @@ made_role (suc n) m s long = by (λ m₁ s₁ l. made_role n m₁ s₁ l) (goes 
 
 -- what is settled first and applied next
 pub made_first : (n : ℕ) (m s : List ℕ) (long : Long m) → (loaded m).unsettled ≡ true → applied_number m < decided m →
-    made (suc (suc n)) m s ≡ after_first (applied (applied_number m + 1) (value_at m (applied_number m))) (made n (onward (safe m long) (safe_long m long)) (safe m long))
+    made (suc (suc n)) m s ≡ applies_first (applied (applied_number m + 1) (value_at m (applied_number m))) (made n (onward (safe m long) (safe_long m long)) (safe m long))
 made_first n m s long u l =
     let a = stored_applied m (settled (loaded m)) in
     let q = stored_log m (settled (loaded m)) in
     let still : (loaded (safe m long)).unsettled ≡ false = ap (λ (x : Machine Role). x.unsettled) (safe_loaded m long) in
     made_settle (suc n) m s long u
     ∙ (made_apply n (safe m long) (safe m long) (safe_long m long) still (omega (arith, same_decided m (safe m long) q))
-    ∙ ap (λ (y : Applied). after_first y (made n (onward (safe m long) (safe_long m long)) (safe m long)))
+    ∙ ap (λ (y : Applied). applies_first y (made n (onward (safe m long) (safe_long m long)) (safe m long)))
     (ap (λ j. applied (j + 1) (value_at (safe m long) j)) a ∙ ap (applied (applied_number m + 1)) (q.entries.held (applied_number m))))

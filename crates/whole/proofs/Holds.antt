@@ -1,16 +1,16 @@
 -- A memory whose log is what the order says, all of it decided: so it is where one machine decides alone, and where nothing is decided.
 use Rattle.std.proofs.Common.{◌≡◌, ℕ, ◌+◌, ◌-◌, ◌<◌, true, cond, ltb, List, [], ◌∷◌, ◌++◌, length, get_or, sym, ap, ◌∙◌, inl, inr, arith}
-use Rattle.std.proofs.lemmas.List.{length_push, get_or_push, get_or_append_left, get_or_past}
+use Rattle.std.proofs.lemmas.List.{length_push, get_or_push, get_or_append_left}
 use Rattle.std.proofs.lemmas.Bool.{ltb-true, and_parts, cases_lt}
 use Rattle.raft_log.specs.Values.{value_at}
 use Rattle.raft_log.specs.Entries.{last_index, commit_index, number_at, values, decided, last_is_empty, value_fits, value_appended, empty_place, empty_fits, empty_appended, commit_raised}
-use Rattle.raft_log.proofs.ValueLaws.{Bytes}
 use Rattle.raft_log.proofs.LogLaws.{SameEntries, commit_most, length_commit_raised, commit_raised_entries, commit_raised_up}
 use Rattle.raft_log.proofs.AppendLaws.{Roomy, roomy_appended, roomy_emptied, length_appended, appended_last, appended_values, appended_held, appended_value, length_empty, empty_last, empty_values, empty_held}
 use Rattle.together.specs.House.{every, nth_value, all_apart, an_order}
 use Rattle.together.specs.Promise.{are_bytes}
 use Rattle.whole.proofs.Acts.{Long, SameLog}
-use Rattle.whole.proofs.Orders.{nth_front, nth_last, every_at}
+use Rattle.together.proofs.Lists.{every_at, bytes_from}
+use Rattle.whole.proofs.Orders.{nth_front, nth_last}
 
 pub record Holds (ps : List (List ℕ)) (o m : List ℕ) : Type 0 where
   pub long : Long m
@@ -64,18 +64,11 @@ holds_led ps o m t f h =
     committed_all ps o (empty_appended m t) (empty_place m) (length_empty m t h.long f ∙ h.long) (roomy_emptied m t h.long f h.roomy)
     (empty_values m t h.long f ∙ h.count) (empty_last m t h.long f) (λ j b. empty_held m t h.long f j ∙ h.held j b)
 
-bytes_are : (v : List ℕ) → are_bytes v ≡ true → Bytes v
-bytes_are v e i =
-    elim (cases_lt i (length v)) [
-      | inl l ↦ ltb-true (get_or v i 0) 256 (every_at (λ b. ltb b 256) v i 0 e l)
-      | inr l ↦ rw (get_or_past v i 0 l) (omega arith)
-    ]
-
 -- A PROPOSAL stands last in the order, and is decided
 module _ (ps : List (List ℕ)) (o : List ℕ) (ordered : an_order ps o ≡ true) where
   order_at : (i : ℕ) → i < length o → get_or o i 0 < length ps
   order_at i l =
-      ltb-true (get_or o i 0) (length ps) (every_at (λ j. ltb j (length ps)) o i 0 (and_parts (every (λ j. ltb j (length ps)) o) (all_apart o) ordered).0 l)
+      ltb-true (get_or o i 0) (length ps) (every_at (λ j. ltb j (length ps)) o 0 i (and_parts (every (λ j. ltb j (length ps)) o) (all_apart o) ordered).0 l)
 
   -- more was proposed
   pub holds_later : (v m : List ℕ) → Holds ps o m → Holds (ps ++ v ∷ []) o m
@@ -98,5 +91,5 @@ module _ (ps : List (List ℕ)) (o : List ℕ) (ordered : an_order ps o ≡ true
                 let e : i ≡ values m = omega (arith, length_push o (length ps), h.count) in
                 let q : length o ≡ i = omega (arith, length_push o (length ps)) in
                 ap (value_at (value_appended m t v)) e
-                ∙ (appended_value m t v h.long f (bytes_are v bs) ∙ (sym (nth_last ps v) ∙ ap (nth_value (ps ++ v ∷ [])) (sym (get_or_push o (length ps) 0 i q))))
+                ∙ (appended_value m t v h.long f (bytes_from v bs) ∙ (sym (nth_last ps v) ∙ ap (nth_value (ps ++ v ∷ [])) (sym (get_or_push o (length ps) 0 i q))))
           ]

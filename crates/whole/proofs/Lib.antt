@@ -1,5 +1,7 @@
 pub mod Plans
 pub mod Kept
+pub mod Asked
+pub mod Proposed
 pub mod Steady
 pub mod Acts
 pub mod Orders

@@ -1,17 +1,14 @@
 -- The main promise for the machine.
-use Rattle.std.proofs.Common.{◌≡◌, ℕ, ◌≤◌, false, eqb, List, [], get_or, sym, refl, ap, ◌∙◌, subst, inl, inr, arith}
-use Rattle.std.proofs.lemmas.List.{get_or-replicate, get_or_past}
-use Rattle.std.proofs.lemmas.Bool.{cases_lt, false≢true}
-use Rattle.raft_log.specs.Layout.{memory_words, at_most}
-use Rattle.raft_log.specs.Entries.{last_index, applied_number, number_at, values}
+use Rattle.std.proofs.Common.{◌≡◌, ℕ, ◌≤◌, false, eqb, List, [], sym, refl, subst, arith}
+use Rattle.std.proofs.lemmas.Bool.{false≢true}
 use Rattle.raft_log.proofs.LogLaws.{commit_most}
-use Rattle.raft_log.proofs.AppendLaws.{number_none}
 use Rattle.solo.specs.Header.{loaded}
 use Rattle.together.specs.House.{every, all_apart, far}
 use Rattle.together.specs.Promise.{Machine, machine, so_many, world, Right, Whole}
-use Rattle.together.specs.Machine.{zeros, start}
+use Rattle.together.specs.Machine.{start}
 use Rattle.together.specs.Entry.{own}
-use Rattle.together.proofs.Lengths.{length_zeros, length_start}
+use Rattle.together.proofs.Lengths.{length_start}
+use Rattle.together.proofs.Starts.{start_at, start_last, start_applied, start_values}
 use Rattle.whole.proofs.Kept.{Keeps, keeps_right}
 use Rattle.whole.proofs.Steady.{steady}
 use Rattle.whole.proofs.Holds.{Holds}
@@ -20,25 +17,6 @@ use Rattle.whole.proofs.Solo.{calm_alone}
 use Rattle.whole.proofs.Orders.{at_so_many, length_so_many}
 
 -- AT THE START memory is all 0
-zeros_at : (n i : ℕ) → get_or (zeros n) i 0 ≡ 0
-unfolding zeros
-zeros_at n i = elim (cases_lt i n) [ inl l ↦ get_or-replicate n i 0 0 l | inr l ↦ get_or_past (zeros n) i 0 (omega (arith, length_zeros n)) ]
-
-start_at : (i : ℕ) → get_or start i 0 ≡ 0
-unfolding start
-start_at i = zeros_at memory_words i
-
-start_last : last_index start ≡ 0
-unfolding last_index
-start_last = ap (λ x. at_most x 8193) (start_at 64)
-
-start_applied : applied_number start ≡ 0
-unfolding applied_number
-start_applied = ap (λ x. at_most x 4096) (start_at 66)
-
-start_values : values start ≡ 0
-start_values = ap (number_at start) start_last ∙ number_none start
-
 start_term : (loaded start).term.0 ≡ 0
 unfolding loaded
 start_term = start_at 2

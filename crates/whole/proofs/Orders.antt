@@ -1,9 +1,13 @@
 -- The order as it grows by one, and the list of machines as one of them changes.
-use Rattle.std.proofs.Common.{◌≡◌, ℕ, zero, suc, ◌<◌, Bool, true, false, not, eqb, ltb, ◌≢◌, List, [], ◌∷◌, ◌++◌, length, get_or, refl, ap, arith}
+use Rattle.std.proofs.Common.{get_or, Bool, ◌≡◌, ℕ, zero, suc, ◌+◌, ◌-◌, ◌*◌, ◌<◌, ◌&&◌, leb, ◌∙◌, subst, true, false, not, eqb, ltb, ◌≢◌, List, [], ◌∷◌, ◌++◌, length, refl, ap, arith}
 use Rattle.std.proofs.lemmas.List.{length_push}
-use Rattle.std.proofs.lemmas.Bool.{ltb-true, lt-ltb, eq-eqb, ne_eqb, and_parts, and_from, not-true, not_from_false}
-use Rattle.together.specs.House.{or, every, any, same, nth_value, all_apart, an_order, begins}
+use Rattle.std.proofs.lemmas.Bool.{le-leb, ltb-true, lt-ltb, eq-eqb, ne_eqb, and_parts, and_from, not-true, not_from_false}
+use Rattle.together.specs.House.{or, every, any, nth_value, all_apart, an_order, begins}
 use Rattle.together.specs.Promise.{Machine, machine_at, set_machine, so_many}
+use Rattle.together.proofs.Lists.{every_weaker, every_append, any_append}
+use Rattle.together.specs.House.{pick, those, same, Applied, applied, by_order}
+use Rattle.together.specs.Promise.{Flown, world, enough_up}
+use Rattle.together.proofs.Lists.{no_way, same_self}
 
 pub nth_front : (ps : List (List ℕ)) (v : List ℕ) (j : ℕ) → j < length ps → nth_value (ps ++ v ∷ []) j ≡ nth_value ps j
 unfolding nth_value
@@ -26,35 +30,6 @@ unfolding begins
 begins_more [] k = refl
 begins_more (x ∷ xs) k = and_from (eqb x x) (begins xs (xs ++ k ∷ [])) (eq-eqb x x refl) (begins_more xs k)
 
-pub same_self : (v : List ℕ) → same v v ≡ true
-unfolding same
-same_self [] = refl
-same_self (x ∷ xs) = and_from (eqb x x) (same xs xs) (eq-eqb x x refl) (same_self xs)
-
-pub every_more : (p : ℕ → Bool) (xs : List ℕ) (x : ℕ) → every p xs ≡ true → p x ≡ true → every p (xs ++ x ∷ []) ≡ true
-unfolding every
-every_more p [] x h e = and_from (p x) true e refl
-every_more p (y ∷ ys) x h e = and_from (p y) (every p (ys ++ x ∷ [])) (and_parts (p y) (every p ys) h).0 (every_more p ys x (and_parts (p y) (every p ys) h).1 e)
-
-pub every_weaker : (p q : ℕ → Bool) → ((x : ℕ) → p x ≡ true → q x ≡ true) → (xs : List ℕ) → every p xs ≡ true → every q xs ≡ true
-unfolding every
-every_weaker p q f [] h = refl
-every_weaker p q f (y ∷ ys) h =
-    and_from (q y) (every q ys) (f y (and_parts (p y) (every p ys) h).0) (every_weaker p q f ys (and_parts (p y) (every p ys) h).1)
-
-any_more : (p : ℕ → Bool) (xs : List ℕ) (x : ℕ) → any p xs ≡ false → p x ≡ false → any p (xs ++ x ∷ []) ≡ false
-unfolding any
-any_more p [] x h e = go (p x) e
-  where
-    go : (b : Bool) → b ≡ false → or b false ≡ false
-    go true e = e
-    go false e = refl
-any_more p (y ∷ ys) x h e = go (p y) h (any_more p ys x)
-  where
-    go : (b : Bool) → or b (any p ys) ≡ false → (any p ys ≡ false → p x ≡ false → any p (ys ++ x ∷ []) ≡ false) → or b (any p (ys ++ x ∷ [])) ≡ false
-    go true h f = h
-    go false h f = f h e
-
 apart_more : (o : List ℕ) (n : ℕ) → every (λ j. ltb j n) o ≡ true → all_apart o ≡ true → all_apart (o ++ n ∷ []) ≡ true
 unfolding every all_apart any
 apart_more [] n b a = refl
@@ -63,7 +38,7 @@ apart_more (k ∷ ks) n b a =
     let a₁ = and_parts (not (any (eqb k) ks)) (all_apart ks) a in
     let ne : eqb k n ≡ false = ne_eqb k n (λ e. omega (arith, ltb-true k n b₁.0)) in
     and_from (not (any (eqb k) (ks ++ n ∷ []))) (all_apart (ks ++ n ∷ []))
-    (not_from_false (any (eqb k) (ks ++ n ∷ [])) (any_more (eqb k) ks n (not-true (any (eqb k) ks) a₁.0) ne))
+    (not_from_false (any (eqb k) (ks ++ n ∷ [])) (any_append (eqb k) ks (n ∷ []) (not-true (any (eqb k) ks) a₁.0) (ap (λ b. or b false) ne)))
     (apart_more ks n b₁.1 a₁.1)
 
 module _ (ps : List (List ℕ)) (o : List ℕ) (v : List ℕ) (h : an_order ps o ≡ true) where
@@ -77,9 +52,10 @@ module _ (ps : List (List ℕ)) (o : List ℕ) (v : List ℕ) (h : an_order ps o
   order_later = and_from (every (λ j. ltb j (length (ps ++ v ∷ []))) o) (all_apart o) below (and_parts (every (λ j. ltb j (length ps)) o) (all_apart o) h).1
 
   pub order_more : an_order (ps ++ v ∷ []) (o ++ length ps ∷ []) ≡ true
+  unfolding every
   order_more =
       and_from (every (λ j. ltb j (length (ps ++ v ∷ []))) (o ++ length ps ∷ [])) (all_apart (o ++ length ps ∷ []))
-      (every_more (λ j. ltb j (length (ps ++ v ∷ []))) o (length ps) below (lt-ltb (length ps) (length (ps ++ v ∷ [])) (omega (arith, length_push ps v))))
+      (every_append (λ j. ltb j (length (ps ++ v ∷ []))) o (length ps ∷ []) below (and_from (ltb (length ps) (length (ps ++ v ∷ []))) true (lt-ltb (length ps) (length (ps ++ v ∷ [])) (omega (arith, length_push ps v))) refl))
       (apart_more o (length ps) (and_parts (every (λ j. ltb j (length ps)) o) (all_apart o) h).0 (and_parts (every (λ j. ltb j (length ps)) o) (all_apart o) h).1)
 
 -- the list of machines
@@ -114,8 +90,30 @@ unfolding so_many
 length_so_many zero x = refl
 length_so_many (suc n) x = ap suc (length_so_many n x)
 
-pub every_at : {A : Type 0} (p : A → Bool) (xs : List A) (i : ℕ) (d : A) → every p xs ≡ true → i < length xs → p (get_or xs i d) ≡ true
-unfolding every
-every_at p [] i d e l = absurd (omega arith)
-every_at p (x ∷ xs) zero d e l = (and_parts (p x) (every p xs) e).0
-every_at p (x ∷ xs) (suc i) d e l = every_at p xs i d (and_parts (p x) (every p xs) e).1 (omega arith)
+-- which machine an event is for
+pub machine_here : (ms : List Machine) (n h : ℕ) (u : Bool) → length ms ≡ n → (ltb h (length ms) && u) ≡ true → (h < n) × (u ≡ true)
+machine_here ms n h u e p =
+    let q = and_parts (ltb h (length ms)) u p in
+    (omega (arith, ltb-true h (length ms) q.0), q.1)
+
+-- where there is one machine, more than half are up if it is, and what holds of it holds
+pub up_alone : (x : Machine) (fs : List Flown) (ps : List (List ℕ)) (o : List ℕ) (ds : List Applied) → enough_up (world (x ∷ []) fs ps o ds) ≡ true → x.up ≡ true
+unfolding those
+up_alone x fs ps o ds e = go x.up e
+  where
+    go : (b : Bool) → ltb 1 (2 * length (pick b (x ∷ []) [])) ≡ true → b ≡ true
+    go true e = refl
+    go false e = e
+
+pub one_machine : (P : List Machine → Type 0) (ms : List Machine) → length ms ≡ 1 → ((x : Machine) → P (x ∷ [])) → P ms
+one_machine P [] e f = no_way e
+one_machine P (x ∷ []) e f = f x
+one_machine P (x ∷ y ∷ ms) e f = absurd (let z : suc (suc (length ms)) ≡ 1 = e in omega arith)
+
+-- what the order has next is applied by it
+pub by_next : (ps : List (List ℕ)) (o : List ℕ) (j : ℕ) (v : List ℕ) → j < length o → v ≡ nth_value ps (get_or o j 0) → by_order ps o (applied (j + 1) v) ≡ true
+by_next ps o j v l e =
+    let at : v ≡ nth_value ps (get_or o (j + 1 - 1) 0) = e ∙ ap (λ i. nth_value ps (get_or o i 0)) (let q : j ≡ j + 1 - 1 = omega arith in q) in
+    and_from (leb 1 (j + 1) && leb (j + 1) (length o)) (same v (nth_value ps (get_or o (j + 1 - 1) 0)))
+    (and_from (leb 1 (j + 1)) (leb (j + 1) (length o)) (le-leb 1 (j + 1) (omega arith)) (le-leb (j + 1) (length o) (omega arith)))
+    (subst (λ (x : List ℕ). same v x ≡ true) at (same_self v))

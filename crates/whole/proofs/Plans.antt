@@ -1,7 +1,11 @@
 -- A run of an engine whose acts are planned: what is still to be done is a list that memory determines, and each step does the first of them.
-use Rattle.std.proofs.Common.{◌≡◌, ℕ, zero, suc, ◌<◌, ◌≤◌, Bool, true, false, ◌&&◌, leb, ◌⊎◌, List, [], ◌∷◌, ◌++◌, length, refl, ap, ◌∙◌, inl, inr, arith}
+use Rattle.std.proofs.Common.{◌≡◌, ℕ, zero, suc, ◌<◌, Bool, true, false, ◌&&◌, eqb, leb, ◌⊎◌, List, [], ◌∷◌, ◌++◌, length, sym, refl, ap, ◌∙◌, subst, inl, inr, arith}
 use Rattle.std.proofs.lemmas.List.{append_assoc, append-nil}
-use Rattle.together.specs.House.{pick, Applied, applied}
+use Rattle.raft.specs.declared.proposal.Refusal.{Refusal}
+use Rattle.raft.specs.declared.proposal.Refusal.TheVariants.{NotNow, TooLong, Full}
+use Rattle.raft.specs.Proposal.{refusal_number}
+use Rattle.together.specs.House.{pick, none_of, Applied, applied}
+use Rattle.together.proofs.Lists.{no_way}
 use Rattle.together.specs.Promise.{Engine, Event, next, Act, flies, settle, applies, shows, done, refused, Step, Letter, letter, are_bytes, Ran, ran, runs, one_act}
 use Rattle.together.specs.Machine.{answer}
 
@@ -127,21 +131,91 @@ end_done zero as₁ l = absurd (omega arith)
 end_done (suc n) [] l = refl
 end_done (suc n) (a ∷ as₁) l = end_done n as₁ (omega arith)
 
-pub end_cut : (n : ℕ) (as₁ : List Act) → n ≤ length as₁ → end_after n as₁ ≡ 1000
-unfolding end_after
-end_cut zero as₁ l = refl
-end_cut (suc n) [] l = absurd (omega arith)
-end_cut (suc n) (a ∷ as₁) l = end_cut n as₁ (omega arith)
-
 pub end_either : (n : ℕ) (as₁ : List Act) → (end_after n as₁ ≡ 0) ⊎ (end_after n as₁ ≡ 1000)
 unfolding end_after
 end_either zero as₁ = inr refl
 end_either (suc n) [] = inl refl
 end_either (suc n) (a ∷ as₁) = end_either n as₁
 
-pub first_all : (n : ℕ) (as₁ : List Act) → length as₁ ≤ n → first_acts n as₁ ≡ as₁
-unfolding first_acts
-first_all zero [] l = refl
-first_all zero (a ∷ as₁) l = absurd (omega arith)
-first_all (suc n) [] l = refl
-first_all (suc n) (a ∷ as₁) l = ap (λ x. a ∷ x) (first_all n as₁ (omega arith))
+-- WHAT A MEMORY DOES NEXT: an act of its plan, and the plan goes on from the memory after it; or it is done
+pub data Turn (go : List ℕ → Step) (fit : List ℕ → Type 0) (acts : List ℕ → List Act) (m : List ℕ) : Type 0 where
+  acting : (m₁ : List ℕ) (a : Act) → fit m₁ → PlannedAct a → go m ≡ answer m₁ a → acts m ≡ a ∷ acts m₁ → Turn go fit acts m
+  ending : go m ≡ answer m done → acts m ≡ [] → Turn go fit acts m
+
+module _ (e : Engine) (go : List ℕ → Step) (fit : List ℕ → Type 0) (acts : List ℕ → List Act)
+    (goes_on : (m : List ℕ) → e.step m next ≡ go m) (turn : (m : List ℕ) → fit m → Turn go fit acts m) where
+  -- one act and what is left after it, by its memory, the act and the plan
+  record First (m : List ℕ) (a : Act) (as₁ : List Act) : Type 0 where
+    step : go m ≡ answer (go m).memory a
+    then : acts (go m).memory ≡ as₁
+    fits : fit (go m).memory
+    good : PlannedAct a
+
+  first : (m : List ℕ) (a : Act) (as₁ : List Act) → fit m → acts m ≡ a ∷ as₁ → First m a as₁
+  first m a as₁ f eq = by (turn m f)
+    where
+      by : Turn go fit acts m → First m a as₁
+      by (acting m₁ a₁ f₁ p g q) =
+          let ea : a₁ ≡ a = cc in
+          let es : acts m₁ ≡ as₁ = cc in
+          let em : (go m).memory ≡ m₁ = ap (λ (s : Step). s.memory) g in
+          record {
+            step = g ∙ (ap (λ x. answer x a₁) (sym em) ∙ ap (answer (go m).memory) ea);
+            then = ap acts em ∙ es;
+            fits = subst (λ (x : List ℕ). fit x) (sym em) f₁;
+            good = subst (λ (x : Act). PlannedAct x) ea p;
+          }
+      by (ending g q) = let x : [] ≡ a ∷ as₁ = sym q ∙ eq in no_way cc
+
+  nothing_left : (m : List ℕ) → fit m → acts m ≡ [] → go m ≡ answer m done
+  nothing_left m f eq = by (turn m f)
+    where
+      by : Turn go fit acts m → go m ≡ answer m done
+      by (acting m₁ a f₁ p g q) = let x : a ∷ acts m₁ ≡ [] = sym q ∙ eq in no_way cc
+      by (ending g q) = g
+
+  -- THE PLAN of an engine that goes on so
+  pub planned : Planned e fit acts (λ m. (go m).memory)
+  planned =
+      record {
+        none = λ m f q. goes_on m ∙ nothing_left m f q;
+        some = λ m a as₁ f q. goes_on m ∙ (first m a as₁ f q).step;
+        then = λ m a as₁ f q. (first m a as₁ f q).then;
+        fits = λ m a as₁ f q. (first m a as₁ f q).fits;
+        good = λ m a as₁ f q. (first m a as₁ f q).good;
+      }
+
+-- AN EVENT that is cut short before anything is done, or that is answered at once and changes nothing
+module _ (e : Engine) (m s : List ℕ) (ev : Event) where
+  pub run_none : runs 0 e m s ev [] [] [] ≡ ran m s [] [] [] 1000
+  unfolding runs
+  run_none = refl
+
+  abbrev acting_once : ℕ → List ℕ → Step → Ran
+  acting_once n ss x = one_act (λ m₁ s₁ fs₁ ds₁ ss₁. runs n e m₁ s₁ next fs₁ ds₁ ss₁) s [] [] ss x.memory x.act
+
+  pub shown_cut : (k : ℕ) → e.step m ev ≡ answer m (shows k) → runs 1 e m s ev [] [] [] ≡ ran m s [] [] (k ∷ []) 1000
+  unfolding runs one_act
+  shown_cut k q = ap (acting_once 0 []) q
+
+  pub shown_whole : (k n : ℕ) → e.step m ev ≡ answer m (shows k) → e.step m next ≡ answer m done → runs (suc (suc n)) e m s ev [] [] [] ≡ ran m s [] [] (k ∷ []) 0
+  unfolding runs one_act
+  shown_whole k n q d = ap (acting_once (suc n) []) q ∙ ap (acting_once n (k ∷ [])) d
+
+  pub refused_run : (why : Refusal) (n : ℕ) → e.step m ev ≡ answer m (refused (refusal_number why)) → runs (suc n) e m s ev [] [] [] ≡ ran m s [] [] [] (refusal_number why)
+  unfolding runs one_act
+  refused_run why n q = ap (acting_once n []) q ∙ number why
+    where
+      number : (why : Refusal) → acting_once n [] (answer m (refused (refusal_number why))) ≡ ran m s [] [] [] (refusal_number why)
+      number NotNow = refl
+      number TooLong = refl
+      number Full = refl
+
+-- it did this first
+abbrev pub applies_first : Applied → Ran → Ran
+applies_first a r = ran r.memory r.stable r.flew (a ∷ r.did) r.showed r.end
+
+-- it ended, and showed nothing
+pub quiet_ends : (r : Ran) → r.end ≡ 0 → r.showed ≡ [] → (eqb r.end 0 && none_of r.showed) ≡ true
+unfolding none_of
+quiet_ends r e q = rw (e, q)

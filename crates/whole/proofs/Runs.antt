@@ -1,12 +1,12 @@
 -- How each event goes, for one machine, whole or cut short: what it applies is right, and what is safe and in memory stays so.
-use Rattle.std.proofs.Common.{◌≡◌, ℕ, zero, suc, ◌+◌, ◌<◌, ◌≤◌, Bool, true, false, cond, ◌&&◌, eqb, ltb, leb, ◌≢◌, ◌⊎◌, List, [], ◌∷◌, ◌++◌, length, Ok, Err, Result, sym, refl, ap, ◌∙◌, subst, inl, inr, arith}
+use Rattle.std.proofs.Common.{◌≡◌, ℕ, zero, suc, ◌+◌, ◌<◌, ◌≤◌, true, false, ◌&&◌, ltb, leb, ◌≢◌, ◌⊎◌, List, [], ◌∷◌, ◌++◌, length, Ok, Err, Result, sym, refl, ap, ◌∙◌, subst, inl, inr, arith}
 use Rattle.std.proofs.lemmas.List.{length_push}
-use Rattle.std.proofs.lemmas.Bool.{ltb-true, ltb-false, lt-ltb, le-ltb, le-leb, leb-true, leb-false, and_parts, and_cases, cond-true, cond-false, cond_both}
+use Rattle.std.proofs.lemmas.Bool.{le-ltb, leb-true, and_parts, cond_both}
 use Rattle.raft_log.specs.Entries.{last_index, applied_number, values, value_fits, value_appended, commit_raised}
 use Rattle.raft_log.proofs.AppendLaws.{roomy_last, appended_applied}
 use Rattle.raft_log.proofs.LogLaws.{commit_raised_applied}
 use Rattle.solo.specs.declared.header.Role.{Role}
-use Rattle.solo.specs.declared.header.Role.TheVariants.{Follower, Candidate, Leader}
+use Rattle.solo.specs.declared.header.Role.TheVariants.{Leader}
 use Rattle.raft.specs.declared.header.Machine.{Machine}
 use Rattle.raft.specs.declared.proposal.Refusal.{Refusal}
 use Rattle.raft.specs.declared.proposal.Refusal.TheVariants.{NotNow, TooLong, Full}
@@ -14,12 +14,12 @@ use Rattle.solo.specs.Header.{loaded}
 use Rattle.solo.specs.Power.{powered}
 use Rattle.solo.specs.Election.{ticked}
 use Rattle.raft.specs.Rows.{most_of}
-use Rattle.solo.specs.Proposal.{own_acked, taken, propose_as, proposed}
+use Rattle.solo.specs.Proposal.{own_acked, taken, proposed}
 use Rattle.raft.specs.Proposal.{refusal_number, with_unsettled}
 use Rattle.solo.proofs.HeaderLaws.{loaded_held, loaded_stored, length_stored, stored_applied}
-use Rattle.together.specs.House.{pick, or, every, propose, how_far, Far, far, all_in_turn, far_after, by_order, an_order, begins}
-use Rattle.together.specs.Promise.{Event, on, said, tick, next, shows, done, Step, Ran, ran, runs, one_act, are_bytes}
-use Rattle.together.specs.Machine.{answer, go_on, after_proposal, acts, own_step}
+use Rattle.together.specs.House.{every, propose, how_far, Far, far, all_in_turn, far_after, by_order, an_order, begins}
+use Rattle.together.specs.Promise.{Event, on, said, tick, next, shows, done, Ran, ran, runs, are_bytes}
+use Rattle.together.specs.Machine.{answer, after_proposal, acts, own_step}
 use Rattle.together.specs.Entry.{own}
 use Rattle.whole.proofs.Plans.{runs_event}
 use Rattle.whole.proofs.Acts.{Long, rest, acts_done, own_planned}
@@ -27,6 +27,10 @@ use Rattle.whole.proofs.Holds.{Holds, holds_decided, holds_later}
 use Rattle.whole.proofs.Going.{made, made_fine, settled_fine, made_ends, Stable, Going, Rests, Fine, fine_none}
 use Rattle.whole.proofs.Events.{tick_going, taken_going, power_going, stable_later}
 use Rattle.whole.proofs.Orders.{begins_self, begins_more, order_later, order_more}
+use Rattle.whole.proofs.Plans.{run_none, shown_cut, shown_whole, refused_run}
+use Rattle.whole.proofs.Acts.{own_next}
+use Rattle.whole.proofs.Asked.{turned_away, taken_in, full_by, ends_as, refused_ends, with_it, refused_counts}
+use Rattle.whole.proofs.Proposed.{Asks, asked}
 
 -- how what is proposed and the order may grow: the order only where one machine is alone
 pub record Grown (many : ℕ) (ps : List (List ℕ)) (o : List ℕ) (ps₁ : List (List ℕ)) (o₁ : List ℕ) : Type 0 where
@@ -60,10 +64,6 @@ went_fine many h k ps o f r ps₁ o₁ g z =
       stays = elim z.stays [ inl e ↦ inl e | inr e ↦ inr e.1 ];
     }
 
-run_none : (m s : List ℕ) (ev : Event) → runs 0 own m s ev [] [] [] ≡ ran m s [] [] [] 1000
-unfolding runs
-run_none m s ev = refl
-
 module _ (many h k : ℕ) (ps : List (List ℕ)) (o : List ℕ) (ordered : an_order ps o ≡ true) (short : length o ≤ length ps) where
   pub grown_none : Grown many ps o ps o
   grown_none = record { ordered = ordered; onward = begins_self o; short = short; others = inr (refl, λ m g. g) }
@@ -80,7 +80,7 @@ module _ (many h k : ℕ) (ps : List (List ℕ)) (o : List ℕ) (ordered : an_or
   quiet_event : (n : ℕ) (ev : Event) (m m₁ s : List ℕ) (f : Far) → own.step m ev ≡ own.step m₁ next → Going many h k ps o m₁ f → Stable many h k ps o s f →
       Fine many h k ps o f (runs n own m s ev [] [] [])
   quiet_event zero ev m m₁ s f e g g₁ =
-      subst (λ (r : Ran). Fine many h k ps o f r) (sym (run_none m s ev)) (fine_none many h k ps o m s f 1000 g₁ g.ever (inl refl))
+      subst (λ (r : Ran). Fine many h k ps o f r) (sym (run_none own m s ev)) (fine_none many h k ps o m s f 1000 g₁ g.ever (inl refl))
   quiet_event (suc n) ev m m₁ s f e g g₁ =
       subst (λ (r : Ran). Fine many h k ps o f r) (sym (runs_event own Long acts rest own_planned n ev m m₁ s g.holds.long e))
       (made_fine many h k ps o (suc n) m₁ s f g g₁)
@@ -110,59 +110,6 @@ on_how_far m = refl
 on_propose : (m v : List ℕ) (p : Result (List ℕ) Refusal) → proposed m v ≡ p → own.step m (said (propose v)) ≡ after_proposal m p
 unfolding own own_step
 on_propose m v p e = ap (after_proposal m) e
-
-on_next : (m : List ℕ) → own.step m next ≡ go_on m
-unfolding own own_step
-on_next m = refl
-
--- why a proposal is refused
-abbrev pub Why : List ℕ → ℕ → Refusal → Type 0
-Why m long NotNow = (long ≤ 256) × ((loaded m).role ≡ Leader → ⊥)
-Why m long TooLong = 256 < long
-Why m long Full = (long ≤ 256) × (value_fits m long ≡ false)
-
--- what becomes of a proposal
-pub data Asked (m v : List ℕ) : Type 0 where
-  turned_away : (why : Refusal) → Why m (length v) why → proposed m v ≡ Err why → Asked m v
-  taken_in : (loaded m).role ≡ Leader → value_fits m (length v) ≡ true → proposed m v ≡ Ok (taken m (loaded m) v) → Asked m v
-
-no_way : {A : Type 0} → ◌≡◌ {A = ℕ} 0 1 → A
-no_way e = absurd (omega arith)
-
-pub asked : (m v : List ℕ) → Asked m v
-unfolding proposed
-asked m v = size (ltb 256 (length v)) refl
-  where
-    x : Machine Role
-    x = loaded m
-
-    answers : Bool → Role → Result (List ℕ) Refusal
-    answers b role = cond b (Err TooLong) (propose_as m x role v)
-
-    room : (b : Bool) → value_fits m (length v) ≡ b → ltb 256 (length v) ≡ false → x.role ≡ Leader → Asked m v
-    room true f short l =
-        taken_in l f (ap (λ t. answers t x.role) short ∙ (ap (λ t. propose_as m x t v) l ∙ cond-true (value_fits m (length v)) (Ok (taken m x v)) (Err Full) f))
-    room false f short l =
-        turned_away Full (ltb-false 256 (length v) short, f)
-        (ap (λ t. answers t x.role) short ∙ (ap (λ t. propose_as m x t v) l ∙ cond-false (value_fits m (length v)) (Ok (taken m x v)) (Err Full) f))
-
-    role : (t : Role) → x.role ≡ t → ltb 256 (length v) ≡ false → Asked m v
-    role (Follower e) l short =
-        turned_away NotNow (ltb-false 256 (length v) short, λ q. let z : Follower e ≡ Leader = sym l ∙ q in no_way cc) (ap (λ t. answers t x.role) short ∙ ap (λ t. propose_as m x t v) l)
-    role (Candidate e) l short =
-        turned_away NotNow (ltb-false 256 (length v) short, λ q. let z : Candidate e ≡ Leader = sym l ∙ q in no_way cc) (ap (λ t. answers t x.role) short ∙ ap (λ t. propose_as m x t v) l)
-    role Leader l short = room (value_fits m (length v)) refl short l
-
-    size : (b : Bool) → ltb 256 (length v) ≡ b → Asked m v
-    size true e = turned_away TooLong (ltb-true 256 (length v) e) (ap (λ t. answers t x.role) e)
-    size false e = role x.role refl e
-
--- a leader with room takes a proposal
-pub propose_takes : (m v : List ℕ) → length v ≤ 256 → (loaded m).role ≡ Leader → value_fits m (length v) ≡ true → proposed m v ≡ Ok (taken m (loaded m) v)
-unfolding proposed
-propose_takes m v short leads fits =
-    cond-false (ltb 256 (length v)) (Err TooLong) (propose_as m (loaded m) (loaded m).role v) (le-ltb 256 (length v) short)
-    ∙ (ap (λ t. propose_as m (loaded m) t v) leads ∙ cond-true (value_fits m (length v)) (Ok (taken m (loaded m) v)) (Err Full) fits)
 
 pub taken_applied : (m v : List ℕ) → value_fits m (length v) ≡ true → Long m → applied_number (taken m (loaded m) v) ≡ applied_number m
 unfolding taken own_acked
@@ -216,16 +163,8 @@ module _ (many h k : ℕ) (ps : List (List ℕ)) (o : List ℕ) (ordered : an_or
   idle = own_planned.none m long (acts_done m long r.still (omega (arith, holds_decided ps o m r.going.holds, r.all)))
 
   -- HOW FAR
-  abbrev acting : ℕ → List ℕ → Step → Ran
-  acting n ss x = one_act (λ m₂ s₁ fs₁ ds₂ ss₁. runs n own m₂ s₁ next fs₁ ds₂ ss₁) s [] [] ss x.memory x.act
-
-  shown_cut : runs 1 own m s (said how_far) [] [] [] ≡ ran m s [] [] ((loaded m).since.0 ∷ []) 1000
-  unfolding runs one_act
-  shown_cut = ap (acting 0 []) (on_how_far m)
-
   pub shown : (n : ℕ) → runs (suc (suc n)) own m s (said how_far) [] [] [] ≡ ran m s [] [] ((loaded m).since.0 ∷ []) 0
-  unfolding runs one_act
-  shown n = ap (acting (suc n) []) (on_how_far m) ∙ ap (acting n ((loaded m).since.0 ∷ [])) idle
+  shown n = shown_whole own m s (said how_far) (loaded m).since.0 n (on_how_far m) idle
 
   unchanged : (ss : List ℕ) (e : ℕ) → Went many h (suc k) ps o f (ran m s [] [] ss e) ps
   unfolding all_in_turn far_after every
@@ -242,17 +181,14 @@ module _ (many h k : ℕ) (ps : List (List ℕ)) (o : List ℕ) (ordered : an_or
       }
 
   pub went_how_far : (n : ℕ) → Went many h (suc k) ps o f (runs n own m s (said how_far) [] [] []) ps
-  went_how_far zero = subst (λ (x : Ran). Went many h (suc k) ps o f x ps) (sym (run_none m s (said how_far))) (unchanged [] 1000)
-  went_how_far (suc zero) = subst (λ (x : Ran). Went many h (suc k) ps o f x ps) (sym shown_cut) (unchanged _ 1000)
+  went_how_far zero = subst (λ (x : Ran). Went many h (suc k) ps o f x ps) (sym (run_none own m s (said how_far))) (unchanged [] 1000)
+  went_how_far (suc zero) = subst (λ (x : Ran). Went many h (suc k) ps o f x ps) (sym (shown_cut own m s (said how_far) (loaded m).since.0 (on_how_far m))) (unchanged _ 1000)
   went_how_far (suc (suc n)) = subst (λ (x : Ran). Went many h (suc k) ps o f x ps) (sym (shown n)) (unchanged _ 0)
 
   -- A PROPOSAL
   module _ (v : List ℕ) (bs : are_bytes v ≡ true) where
-    abbrev with_it : ℕ → List (List ℕ)
-    with_it e = pick (or (eqb e 0) (eqb e 1000)) (ps ++ v ∷ []) ps
-
     abbrev Goes : Ran → Type 0
-    Goes x = Went many h (suc k) ps o f x (with_it x.end)
+    Goes x = Went many h (suc k) ps o f x (with_it ps v x.end)
 
     -- power goes before anything is done
     went_none : Goes (ran m s [] [] [] 1000)
@@ -270,24 +206,13 @@ module _ (many h k : ℕ) (ps : List (List ℕ)) (o : List ℕ) (ordered : an_or
         }
 
     -- it is refused
-    number_end : (why : Refusal) → pick (leb 1 (refusal_number why) && ltb (refusal_number why) 1000) (refusal_number why) 1001 ≡ refusal_number why
-    number_end NotNow = refl
-    number_end TooLong = refl
-    number_end Full = refl
-
-    number_kept : (why : Refusal) → with_it (refusal_number why) ≡ ps
-    number_kept NotNow = refl
-    number_kept TooLong = refl
-    number_kept Full = refl
-
     pub runs_refused : (why : Refusal) → proposed m v ≡ Err why → (n : ℕ) → runs (suc n) own m s (said (propose v)) [] [] [] ≡ ran m s [] [] [] (refusal_number why)
-    unfolding runs one_act
-    runs_refused why e n = ap (acting n []) (on_propose m v (Err why) e) ∙ ap (ran m s [] [] []) (number_end why)
+    runs_refused why e n = refused_run own m s (said (propose v)) why n (on_propose m v (Err why) e)
 
     went_refused : (why : Refusal) → proposed m v ≡ Err why → (n : ℕ) → Goes (runs (suc n) own m s (said (propose v)) [] [] [])
     went_refused why e n =
         subst (λ (x : Ran). Goes x) (sym (runs_refused why e n))
-        (subst (λ (x : List (List ℕ)). Went many h (suc k) ps o f (ran m s [] [] [] (refusal_number why)) x) (sym (number_kept why)) (unchanged [] (refusal_number why)))
+        (subst (λ (x : List (List ℕ)). Went many h (suc k) ps o f (ran m s [] [] [] (refusal_number why)) x) (sym (refused_counts ps v why)) (unchanged [] (refusal_number why)))
 
     -- it is taken
     module _ (leads : (loaded m).role ≡ Leader) (fits : value_fits m (length v) ≡ true) (e : proposed m v ≡ Ok (taken m (loaded m) v)) where
@@ -306,7 +231,7 @@ module _ (many h k : ℕ) (ps : List (List ℕ)) (o : List ℕ) (ordered : an_or
           (record { some = (loaded_held m).some; waits = (loaded_held m).waits }))
 
       on_taken : own.step m (said (propose v)) ≡ own.step m₁ next
-      on_taken = on_propose m v (Ok m₁) e ∙ sym (on_next m₁)
+      on_taken = on_propose m v (Ok m₁) e ∙ sym (own_next m₁)
 
       pub taken_runs : (n : ℕ) → runs (suc n) own m s (said (propose v)) [] [] [] ≡ made (suc n) m₁ s
       taken_runs n = runs_event own Long acts rest own_planned n (said (propose v)) m m₁ s taken_goes.holds.long on_taken
@@ -326,37 +251,25 @@ module _ (many h k : ℕ) (ps : List (List ℕ)) (o : List ℕ) (ordered : an_or
           let w = went_fine many h (suc k) ps o f _ (ps ++ v ∷ []) (o ++ length ps ∷ []) (grown_both many h (suc k) ps o ordered short v (r.going.leads leads)) z in
           subst (λ (x : List (List ℕ)). Went many h (suc k) ps o f (runs (suc n) own m s (said (propose v)) [] [] []) x) (sym (counted z.stays)) w
         where
-          counted : {e₁ : ℕ} {Q : Type 0} → (e₁ ≡ 1000) ⊎ ((e₁ ≡ 0) × Q) → with_it e₁ ≡ ps ++ v ∷ []
-          counted (inl e₁) = ap with_it e₁
-          counted (inr e₁) = ap with_it e₁.0
+          counted : {e₁ : ℕ} {Q : Type 0} → (e₁ ≡ 1000) ⊎ ((e₁ ≡ 0) × Q) → with_it ps v e₁ ≡ ps ++ v ∷ []
+          counted (inl e₁) = ap (with_it ps v) e₁
+          counted (inr e₁) = ap (with_it ps v) e₁.0
 
     pub went_propose : (n : ℕ) → Goes (runs n own m s (said (propose v)) [] [] [])
-    went_propose zero = subst (λ (x : Ran). Goes x) (sym (run_none m s (said (propose v)))) went_none
+    went_propose zero = subst (λ (x : Ran). Goes x) (sym (run_none own m s (said (propose v)))) went_none
     went_propose (suc n) = by (asked m v)
       where
-        by : Asked m v → Goes (runs (suc n) own m s (said (propose v)) [] [] [])
+        by : Asks m v → Goes (runs (suc n) own m s (said (propose v)) [] [] [])
         by (turned_away why w e) = went_refused why e n
         by (taken_in l f e) = went_taken l f e n
 
     -- how it may end
-    abbrev pub may_end_so : ℕ → ℕ → Bool
-    may_end_so e made-so-far = pick (ltb 256 (length v)) (eqb e 6) (or (eqb e 0) (or (eqb e 3) (eqb e 7 && leb 4096 made-so-far)))
-
     full_why : value_fits m (length v) ≡ false → length v ≤ 256 → 4096 ≤ length ps
     full_why f l =
-        elim (and_cases (leb (length v) 256) (ltb (last_index m) 8193 && ltb (values m) 4096) f) [
-          | inl a ↦ absurd (omega (arith, leb-false (length v) 256 a))
-          | inr b ↦
-              elim (and_cases (ltb (last_index m) 8193) (ltb (values m) 4096) b) [
-                | inl c ↦ omega (arith, ltb-false (last_index m) 8193 c, roomy_last m r.going.holds.roomy, r.going.holds.count, short)
-                | inr c ↦ omega (arith, ltb-false (values m) 4096 c, r.going.holds.count, short)
-              ]
+        elim (full_by m (length v) f l) [
+          | inl c ↦ omega (arith, roomy_last m r.going.holds.roomy, r.going.holds.count, short)
+          | inr c ↦ omega (arith, r.going.holds.count, short)
         ]
-
-    refused_ends : (why : Refusal) → Why m (length v) why → may_end_so (refusal_number why) (length ps) ≡ true
-    refused_ends NotNow w = rw (le-ltb 256 (length v) w.0)
-    refused_ends TooLong w = rw (lt-ltb 256 (length v) w)
-    refused_ends Full w = rw (le-ltb 256 (length v) w.0, le-leb 4096 (length ps) (full_why w.1 w.0))
 
     number_not : (why : Refusal) → refusal_number why ≢ 1000
     number_not NotNow = omega arith
@@ -365,15 +278,15 @@ module _ (many h k : ℕ) (ps : List (List ℕ)) (o : List ℕ) (ordered : an_or
 
     pub record Ends (x : Ran) : Type 0 where
       pub still : x.showed ≡ []
-      pub may : may_end_so x.end (length ps) ≡ true
+      pub may : ends_as (length v) (length ps) x.end ≡ true
       pub over : x.end ≢ 1000
 
     pub ends_propose : (n : ℕ) → 4098 ≤ n → Ends (runs (suc n) own m s (said (propose v)) [] [] [])
     ends_propose n l = by (asked m v)
       where
-        by : Asked m v → Ends (runs (suc n) own m s (said (propose v)) [] [] [])
+        by : Asks m v → Ends (runs (suc n) own m s (said (propose v)) [] [] [])
         by (turned_away why w e) =
-            subst (λ (x : Ran). Ends x) (sym (runs_refused why e n)) (record { still = refl; may = refused_ends why w; over = number_not why })
+            subst (λ (x : Ran). Ends x) (sym (runs_refused why e n)) (record { still = refl; may = refused_ends m (length v) (length ps) full_why why w; over = number_not why })
         by (taken_in ld f e) =
             let q = taken_ends ld f e n l in
             let b : length v ≤ 256 = leb-true (length v) 256 (and_parts (leb (length v) 256) (ltb (last_index m) 8193 && ltb (values m) 4096) f).0 in

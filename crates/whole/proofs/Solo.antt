@@ -1,5 +1,5 @@
 -- One machine alone, in calm: after ten ticks it leads, and then what is proposed is decided and applied at once.
-use Rattle.std.proofs.Common.{◌≡◌, ℕ, zero, suc, ◌+◌, ◌*◌, ◌<◌, ◌≤◌, Bool, true, false, not, ◌&&◌, eqb, ltb, leb, ◌⊎◌, List, [], ◌∷◌, ◌++◌, length, Ok, sym, refl, ap, ◌∙◌, subst, inl, inr, arith}
+use Rattle.std.proofs.Common.{◌≡◌, ℕ, zero, suc, ◌+◌, ◌<◌, ◌≤◌, Bool, true, false, not, ◌&&◌, eqb, ltb, leb, ◌⊎◌, List, [], ◌∷◌, ◌++◌, length, Ok, sym, refl, ap, ◌∙◌, subst, inl, inr, arith}
 use Rattle.std.proofs.lemmas.List.{length_push, get_or_push}
 use Rattle.std.proofs.lemmas.Bool.{lt-ltb, le-leb, eq-eqb, eqb-true, and_from}
 use Rattle.raft_log.specs.Values.{value_at}
@@ -10,8 +10,8 @@ use Rattle.solo.specs.declared.header.Role.TheVariants.{Follower, Candidate, Lea
 use Rattle.solo.specs.Header.{loaded}
 use Rattle.solo.specs.Election.{ticked}
 use Rattle.solo.specs.Proposal.{taken, proposed}
-use Rattle.together.specs.House.{pick, or, every, any, those, each, same, propose, Applied, applied, far_after, nth_value}
-use Rattle.together.specs.Promise.{Ran, runs, last_since, most, are_bytes, said, tick, Machine, machine_at, set_machine, World, world, flown, Flown, says, ticks, to_whom, event_for, proper, before, thing_ran, after_machine, with_proposal, after_thing, all_tick, all_come, round, rounds, enough_up, all_got, most_applied, proposing, Takes, Calm}
+use Rattle.together.specs.House.{pick, or, every, any, each, same, propose, Applied, applied, far_after, nth_value}
+use Rattle.together.specs.Promise.{Ran, runs, last_since, most, are_bytes, said, tick, Machine, machine_at, set_machine, World, world, flown, Flown, says, ticks, to_whom, event_for, proper, before, thing_ran, after_machine, with_proposal, after_thing, all_tick, all_come, round, rounds, all_got, most_applied, proposing, Takes, Calm}
 use Rattle.together.specs.Machine.{acts}
 use Rattle.together.specs.Entry.{own}
 use Rattle.whole.proofs.Plans.{runs_event}
@@ -19,10 +19,13 @@ use Rattle.whole.proofs.Acts.{Long, rest, safe, safe_long, onward, own_planned}
 use Rattle.whole.proofs.Holds.{holds_decided}
 use Rattle.whole.proofs.Going.{made, made_role, made_first, Rests, Fine, Going}
 use Rattle.whole.proofs.Events.{rests_applied, rests_since, tick_going}
-use Rattle.whole.proofs.Runs.{on_tick, went_tick, ends_tick, went_fine, grown_none, propose_takes, taken_applied, taken_goes, taken_fine, taken_ends, taken_runs, taken_unsettled}
+use Rattle.whole.proofs.Runs.{on_tick, went_tick, ends_tick, went_fine, grown_none, taken_applied, taken_goes, taken_fine, taken_ends, taken_runs, taken_unsettled}
 use Rattle.whole.proofs.Worlds.{enough, Sound, Good, after_good}
 use Rattle.whole.proofs.Nearer.{left, Leads, nearer}
-use Rattle.whole.proofs.Orders.{same_self, nth_last}
+use Rattle.together.proofs.Lists.{or_left, any_later, same_self}
+use Rattle.whole.proofs.Orders.{nth_last}
+use Rattle.whole.proofs.Proposed.{leader_takes}
+use Rattle.whole.proofs.Orders.{up_alone, one_machine}
 
 left_most : (m : List ℕ) → left (loaded m).role ≤ 10
 left_most m = go (loaded m).role
@@ -167,7 +170,7 @@ module _ (ps : List (List ℕ)) (o : List ℕ) where
       m₁ = taken m (loaded m) v
 
       took_in : proposed m v ≡ Ok (taken m (loaded m) v)
-      took_in = propose_takes m v short leads fits
+      took_in = leader_takes m v short leads fits
 
       abbrev args : Ran
       args = runs enough own m x.stable (said (propose v)) [] [] []
@@ -219,18 +222,9 @@ module _ (ps : List (List ℕ)) (o : List ℕ) where
 
       found : (es : List Applied) → any p (ds ++ applied (length o + 1) v ∷ es) ≡ true
       unfolding any
-      found es = any_at ds
-        where
-          here : p (applied (length o + 1) v) ≡ true
-          here = and_from (eqb (length o + 1) (length o + 1)) (same v v) (eq-eqb (length o + 1) (length o + 1) refl) (same_self v)
-
-          any_at : (xs : List Applied) → any p (xs ++ applied (length o + 1) v ∷ es) ≡ true
-          any_at [] = ap (λ b. or b (any p es)) here
-          any_at (y ∷ ys) = or_any (p y) (any_at ys)
-            where
-              or_any : (b : Bool) → any p (ys ++ applied (length o + 1) v ∷ es) ≡ true → or b (any p (ys ++ applied (length o + 1) v ∷ es)) ≡ true
-              or_any true h = refl
-              or_any false h = h
+      found es =
+          any_later p ds (applied (length o + 1) v ∷ es)
+          (or_left (p (applied (length o + 1) v)) (any p es) (and_from (eqb (length o + 1) (length o + 1)) (same v v) (eq-eqb (length o + 1) (length o + 1) refl) (same_self v)))
 
       abbrev Got : World → Type 0
       Got w = (all_got w (length o + 1) ≡ true) × (any p w.all_did ≡ true)
@@ -251,18 +245,10 @@ module _ (ps : List (List ℕ)) (o : List ℕ) where
     takes =
         (0, up, λ v short bs. (enough, 0, length o + 1, ended v short bs, omega (arith, most_of_one k x ds g up), (got_it v short bs).0, (got_it v short bs).1))
 
-  is_up : (x : Machine) (ds : List Applied) → enough_up (lone x ds) ≡ true → x.up ≡ true
-  unfolding those
-  is_up x ds e = go x.up e
-    where
-      go : (b : Bool) → ltb 1 (2 * length (pick b (x ∷ []) [])) ≡ true → b ≡ true
-      go true e = refl
-      go false e = e
-
   calm_lone : (k : ℕ) (x : Machine) (ds : List Applied) → k ≤ 4294967296 → Good 1 k (lone x ds) → Calm own (lone x ds)
   unfolding Calm every
   calm_lone k x ds low g e =
-      let u = is_up x ds e in
+      let u = up_alone x [] ps o ds e in
       let t = waits 11 k x ds (omega arith) g u in
       let s : since t.x₁ ≡ length o = since_all (k + 11) t.x₁ t.ds₁ t.good t.up in
       let l : Leads t.x₁.memory = elim t.near [ inl b ↦ absurd (omega (arith, left_most x.memory)) | inr b ↦ b ] in (
@@ -274,16 +260,10 @@ module _ (ps : List (List ℕ)) (o : List ℕ) where
         λ room. subst (λ (w : World). Takes own enough w) (sym t.is) (takes (k + 11) t.x₁ t.ds₁ t.good t.up l room),
       )
 
-no_way : {A : Type 0} → ◌≡◌ {A = ℕ} 0 1 → A
-no_way e = absurd (omega arith)
-
-calm_world : (k : ℕ) (ms : List Machine) (fs : List Flown) (ps : List (List ℕ)) (o : List ℕ) (ds : List Applied) → k ≤ 4294967296 → Good 1 k (world ms fs ps o ds) → Calm own (world ms fs ps o ds)
-calm_world k [] fs ps o ds low g = no_way g.number
-calm_world k (x ∷ []) [] ps o ds low g = calm_lone ps o k x ds low g
-calm_world k (x ∷ []) (f ∷ fs) ps o ds low g = no_way (let e = g.wire in cc)
-calm_world k (x ∷ y ∷ ms) fs ps o ds low g = absurd (let e : suc (suc (length ms)) ≡ 1 = g.number in omega arith)
-
 -- one machine alone goes on in calm
 pub calm_alone : (many k : ℕ) (w : World) → k ≤ 4294967296 → Good many k w → eqb many 1 ≡ true → Calm own w
 calm_alone many k w low g e =
-    calm_world k w.machines w.wire w.proposed w.order w.all_did low (subst (λ (n : ℕ). Good n k w) (eqb-true many 1 e) g)
+    let z : Good 1 k w = subst (λ (n : ℕ). Good n k w) (eqb-true many 1 e) g in
+    one_machine (λ ms. Good 1 k (world ms w.wire w.proposed w.order w.all_did) → Calm own (world ms w.wire w.proposed w.order w.all_did)) w.machines z.number
+    (λ x. subst (λ (fs : List Flown). Good 1 k (world (x ∷ []) fs w.proposed w.order w.all_did) → Calm own (world (x ∷ []) fs w.proposed w.order w.all_did)) (sym z.wire)
+    (calm_lone w.proposed w.order k x w.all_did low)) z

@@ -1,85 +1,47 @@
 -- Memory never grows, nor do its numbers beyond 64 bits.
-use Rattle.std.proofs.Common.{◌≡◌, ℕ, zero, suc, ◌+◌, ◌-◌, ◌<◌, ◌≤◌, Bool, true, false, ◌&&◌, eqb, ltb, leb, List, [], ◌∷◌, length, get_or, set, Some, None, Ok, Err, Result, refl, ◌∙◌, arith, lit≤}
+use Rattle.std.proofs.Common.{◌≡◌, ℕ, ◌+◌, ◌-◌, ◌<◌, ◌≤◌, true, ◌&&◌, eqb, ltb, leb, List, length, get_or, Some, None, Ok, Err, Result, ◌∙◌, arith, lit≤}
 use Rattle.std.proofs.lemmas.List.{length-set}
-use Rattle.std.proofs.lemmas.Bool.{ltb-true, lt-ltb, leb-true, and_parts, and_from, cond_both}
-use Rattle.raft_log.specs.Layout.{memory_words, entry_row, value_row}
-use Rattle.raft_log.specs.Values.{word_of, words_put, words_for, value_put}
-use Rattle.raft_log.specs.Entries.{last_index, commit_index, applied_number, values, decided, entry_pushed, value_fits, value_appended, empty_place, empty_fits, empty_appended, commit_rises, commit_raised, applied_set}
-use Rattle.raft_log.proofs.LogLaws.{last_most, applied_most, number_most}
+use Rattle.std.proofs.lemmas.Bool.{ltb-true, leb-true, and_parts, cond_both}
+use Rattle.raft_log.specs.Entries.{last_index, applied_number, values, decided, value_fits, value_appended, empty_place, empty_fits, empty_appended, commit_raised, applied_set}
+use Rattle.raft_log.proofs.LogLaws.{applied_most}
 use Rattle.raft.specs.declared.header.Ticks.{Ticks}
 use Rattle.solo.specs.declared.header.Role.{Role}
 use Rattle.solo.specs.declared.header.Role.TheVariants.{Follower, Candidate, Leader}
 use Rattle.raft.specs.declared.header.Machine.{Machine}
 use Rattle.raft.specs.declared.proposal.Refusal.{Refusal}
-use Rattle.raft.specs.declared.proposal.Refusal.TheVariants.{TooLong, Full}
 use Rattle.solo.specs.Header.{role_word, elapsed_word, loaded, stored}
-use Rattle.raft.specs.Header.{ticks, flag_word}
+use Rattle.raft.specs.Header.{ticks}
 use Rattle.solo.specs.Power.{powered}
 use Rattle.raft.specs.Power.{belongs, restarted}
 use Rattle.solo.specs.Election.{led, campaigned, term_entered, next_term_entered, waited, tick_as, ticked}
 use Rattle.raft.specs.Header.{older, with_role, in_term}
 use Rattle.raft.specs.Rows.{most_of}
 use Rattle.raft.specs.Election.{owner}
-use Rattle.solo.specs.Proposal.{own_acked, taken, propose_as, proposed}
+use Rattle.solo.specs.Proposal.{own_acked, taken, proposed}
 use Rattle.raft.specs.Proposal.{with_unsettled}
 use Rattle.solo.specs.Apply.{advanced}
 use Rattle.raft.specs.Apply.{settled, applied_up_to, due}
 use Rattle.solo.proofs.HeaderLaws.{loaded_held, length_stored}
-use Rattle.together.specs.House.{every, propose, how_far}
+use Rattle.together.specs.House.{propose, how_far}
 use Rattle.together.specs.Promise.{Steady, all_small, Event, on, said, came, tick, next, settle}
-use Rattle.together.specs.Machine.{answer, apply_due, go_on, after_proposal, own_step, zeros, start}
+use Rattle.together.specs.Machine.{answer, apply_due, go_on, after_proposal, own_step}
 use Rattle.together.specs.Entry.{own}
 use Rattle.together.proofs.Lengths.{length_start}
-
-abbrev limit : ℕ
-limit = 18446744073709551616
-
-pub record Kept (m m₁ : List ℕ) : Type 0 where
-  pub long : length m₁ ≡ length m
-  pub small : all_small m ≡ true → all_small m₁ ≡ true
-
-kept : (m : List ℕ) → Kept m m
-kept m = record { long = refl; small = λ h. h }
-
-then_kept : {a b c : List ℕ} → Kept a b → Kept b c → Kept a c
-then_kept p q = record { long = q.long ∙ p.long; small = λ h. q.small (p.small h) }
-
-every_set : (p : ℕ → Bool) (m : List ℕ) (i x : ℕ) → p x ≡ true → every p m ≡ true → every p (set m i x) ≡ true
-unfolding every
-every_set p [] i x e h = h
-every_set p (y ∷ ys) zero x e h = and_from (p x) (every p ys) e (and_parts (p y) (every p ys) h).1
-every_set p (y ∷ ys) (suc i) x e h = and_from (p y) (every p (set ys i x)) (and_parts (p y) (every p ys) h).0 (every_set p ys i x e (and_parts (p y) (every p ys) h).1)
-
--- what a small memory holds is small
-small_word : (m : List ℕ) (i : ℕ) → all_small m ≡ true → get_or m i 0 < limit
-unfolding all_small every
-small_word m i h = go m i h
-  where
-    go : (xs : List ℕ) (i : ℕ) → every (λ m. ltb m limit) xs ≡ true → get_or xs i 0 < limit
-    go [] i h = omega arith
-    go (x ∷ xs) zero h = ltb-true x limit (and_parts (ltb x limit) (every (λ m. ltb m limit) xs) h).0
-    go (x ∷ xs) (suc i) h = go xs i (and_parts (ltb x limit) (every (λ m. ltb m limit) xs) h).1
-
-kept_set : (m : List ℕ) (i x : ℕ) → (all_small m ≡ true → x < limit) → Kept m (set m i x)
-unfolding all_small
-kept_set m i x l = record { long = length-set m i x; small = λ h. every_set (λ y. ltb y limit) m i x (lt-ltb x limit (l h)) h }
+use Rattle.raft.proofs.HeaderLaws.{older_most}
+use Rattle.together.proofs.Starts.{start_zero}
+use Rattle.together.proofs.Smalls.{limit, Kept, kept, then_kept, kept_set, small_word, flag_small, Small as SmallBy, in_term_small, with_role_small, unsettled_small, settled_small, applied_small}
+use Rattle.together.proofs.KeptLogs.{emptied_kept, appended_kept, raised_kept, applied_kept}
+use Rattle.whole.proofs.Asked.{KeptProposed, kept_asked}
+use Rattle.whole.proofs.Proposed.{asked}
 
 -- a struct whose numbers fit words
-pub record Small (x : Machine Role) : Type 0 where
-  pub size : x.size.0 < limit
-  pub id : x.id.0 < limit
-  pub term : x.term.0 < limit
-  pub since : x.since.0 < limit
-  pub waits : elapsed_word x.role ≤ 10
+abbrev Small : Machine Role → Type 0
+Small x = SmallBy elapsed_word x
 
 role_small : (r : Role) → role_word r < limit
 role_small (Follower e) = omega arith
 role_small (Candidate e) = omega arith
 role_small Leader = omega arith
-
-flag_small : (b : Bool) → flag_word b < limit
-flag_small true = omega arith
-flag_small false = omega arith
 
 kept_stored : (m : List ℕ) (x : Machine Role) → (all_small m ≡ true → Small x) → Kept m (stored m x)
 unfolding stored
@@ -103,51 +65,6 @@ loaded_small m h =
       waits = (loaded_held m).waits;
     }
 
--- the log
-word_small : (v : List ℕ) (j : ℕ) → word_of v j < limit
-word_small v j = omega arith
-
-kept_words : (m : List ℕ) (base : ℕ) (v : List ℕ) (n : ℕ) → Kept m (words_put m base v n)
-unfolding words_put
-kept_words m base v zero = kept m
-kept_words m base v (suc n) = then_kept (kept_words m base v n) (kept_set _ (base + n) _ (λ _. word_small v n))
-
-kept_value : (m : List ℕ) (k : ℕ) (v : List ℕ) → length v ≤ 256 → Kept m (value_put m k v)
-unfolding value_put
-kept_value m k v l = then_kept (kept_set m (value_row k) (length v) (λ _. omega arith)) (kept_words _ (value_row k + 1) v (words_for (length v)))
-
-module _ (m : List ℕ) (t : ℕ) (term : all_small m ≡ true → t < limit) where
-  -- an entry is pushed onto what m became
-  kept_pushed : (m₁ : List ℕ) (i n : ℕ) → Kept m m₁ → i ≤ 8193 → n ≤ 4097 → Kept m (entry_pushed m₁ i t n)
-  kept_pushed m₁ i n k a b =
-      record {
-        long = simp length-set k.long;
-        small = λ h.
-            (then_kept (then_kept (kept_set m₁ (entry_row i) t (λ _. term h)) (kept_set _ (entry_row i + 1) n (λ _. omega arith))) (kept_set _ 64 i (λ _. omega arith))
-            ).small (k.small h);
-      }
-
-  kept_appended : (v : List ℕ) → value_fits m (length v) ≡ true → Kept m (value_appended m t v)
-  unfolding value_appended
-  kept_appended v f =
-      let both = and_parts (leb (length v) 256) (ltb (last_index m) 8193 && ltb (values m) 4096) f in
-      let room = ltb-true (last_index m) 8193 (and_parts (ltb (last_index m) 8193) (ltb (values m) 4096) both.1).0 in
-      kept_pushed (value_put m (values m) v) (last_index m + 1) (values m + 1) (kept_value m (values m) v (leb-true (length v) 256 both.0)) (omega arith) (omega (arith, number_most m (last_index m)))
-
-  kept_emptied : empty_fits m ≡ true → Kept m (empty_appended m t)
-  unfolding empty_appended
-  kept_emptied f = kept_pushed m (empty_place m) (values m) (kept m) (leb-true (empty_place m) 8193 f) (omega (arith, number_most m (last_index m)))
-
-kept_raised : (m : List ℕ) (i : ℕ) → Kept m (commit_raised m i)
-unfolding commit_raised
-kept_raised m i =
-    cond_both (commit_rises m i) (set m 65 i) m (λ x. Kept m x)
-    (λ e. kept_set m 65 i (λ _. omega (arith, last_most m, leb-true i (last_index m) (and_parts (ltb (commit_index m) i) (leb i (last_index m)) e).1))) (λ _. kept m)
-
-kept_applied : (m : List ℕ) (k : ℕ) → k < limit → Kept m (applied_set m k)
-unfolding applied_set
-kept_applied m k l = kept_set m 66 k (λ _. l)
-
 -- THE EVENTS
 kept_powered : (m : List ℕ) (i n : ℕ) → Kept m (powered m i n)
 unfolding powered
@@ -157,17 +74,18 @@ kept_powered m i n =
     let b = and_parts (leb n 7) (ltb i n) e in
     let low : n ≤ 7 = leb-true n 7 b.0 in
     let at : i < n = ltb-true i n b.1 in
-    then_kept (kept_stored m (restarted (loaded m) i n (Follower (ticks 0))) (λ h. record { size = omega arith; id = omega arith; term = (loaded_small m h).term; since = omega arith; waits = omega arith }))
-    (kept_applied _ (applied_number m - 1) (omega (arith, applied_most m))))
+    applied_kept m _ (applied_number m - 1)
+    (kept_stored m (restarted (loaded m) i n (Follower (ticks 0))) (λ h. record { size = omega arith; id = omega arith; term = (loaded_small m h).term; since = omega arith; waits = omega arith }))
+    (omega (arith, applied_most m)))
     (λ _. kept m)
 
 module _ (m : List ℕ) (x : Machine Role) (small : all_small m ≡ true → Small x) where
   -- another term or role
   small_in : (t : ℕ) (r : Role) → t < limit → elapsed_word r ≤ 10 → all_small m ≡ true → Small (in_term x t r)
-  small_in t r a b h = record { size = (small h).size; id = (small h).id; term = a; since = (small h).since; waits = b }
+  small_in t r a b h = in_term_small elapsed_word x (small h) t r a b
 
   small_role : (r : Role) → elapsed_word r ≤ 10 → all_small m ≡ true → Small (with_role x r)
-  small_role r b h = record { size = (small h).size; id = (small h).id; term = (small h).term; since = (small h).since; waits = b }
+  small_role r b h = with_role_small elapsed_word x (small h) r b
 
   -- the struct is stored over what m became
   kept_over : (m₁ : List ℕ) (y : Machine Role) → Kept m m₁ → (all_small m ≡ true → Small y) → Kept m (stored m₁ y)
@@ -178,7 +96,7 @@ module _ (m : List ℕ) (x : Machine Role) (small : all_small m ≡ true → Sma
     unfolding led
     kept_led =
         cond_both (empty_fits m) (stored (commit_raised (empty_appended m t) (empty_place m)) (in_term x t Leader)) (stored m (in_term x t (Follower (ticks 0)))) (λ y. Kept m y)
-        (λ e. kept_over (commit_raised (empty_appended m t) (empty_place m)) (in_term x t Leader) (then_kept (kept_emptied m t (λ _. fits) e) (kept_raised _ (empty_place m))) (small_in t Leader fits (omega arith)))
+        (λ e. kept_over (commit_raised (empty_appended m t) (empty_place m)) (in_term x t Leader) (raised_kept m _ (empty_place m) (emptied_kept m m t (kept m) (λ _. fits) e)) (small_in t Leader fits (omega arith)))
         (λ _. kept_stored m _ (small_in t (Follower (ticks 0)) fits (omega arith)))
 
     kept_campaigned : Kept m (campaigned m x t)
@@ -202,9 +120,6 @@ module _ (m : List ℕ) (x : Machine Role) (small : all_small m ≡ true → Sma
   kept_waited e r b =
       cond_both (ltb e.0 10) (stored m (with_role x r)) (next_term_entered m x) (λ y. Kept m y) (λ _. kept_stored m _ (small_role r b)) (λ _. kept_next)
 
-  older_most : (e : Ticks) → (older e).0 ≤ 10
-  older_most e = cond_both (ltb e.0 10) (ticks (e.0 + 1)) (ticks 10) (λ y. y.0 ≤ 10) (λ h. omega (arith, ltb-true e.0 10 h)) (λ _. omega arith)
-
   kept_tick : (r : Role) → Kept m (tick_as m x r)
   kept_tick (Follower e) = kept_waited (older e) (Follower (older e)) (older_most e)
   kept_tick (Candidate e) = kept_waited (older e) (Candidate (older e)) (older_most e)
@@ -213,39 +128,27 @@ module _ (m : List ℕ) (x : Machine Role) (small : all_small m ≡ true → Sma
   kept_own_ack : (m₁ : List ℕ) (i : ℕ) → Kept m m₁ → Kept m (own_acked m₁ x i)
   unfolding own_acked
   kept_own_ack m₁ i k =
-      cond_both (most_of 1 x.size.0) (commit_raised m₁ i) m₁ (λ y. Kept m y) (λ _. then_kept k (kept_raised m₁ i)) (λ _. k)
+      cond_both (most_of 1 x.size.0) (commit_raised m₁ i) m₁ (λ y. Kept m y) (λ _. raised_kept m m₁ i k) (λ _. k)
 
   kept_taken : (v : List ℕ) → value_fits m (length v) ≡ true → Kept m (taken m x v)
   unfolding taken
   kept_taken v f =
-      kept_over _ (with_unsettled x) (kept_own_ack (value_appended m x.term.0 v) (last_index m + 1) (kept_appended m x.term.0 (λ h. (small h).term) v f))
-      (λ h. record { size = (small h).size; id = (small h).id; term = (small h).term; since = (small h).since; waits = (small h).waits })
-
--- memory after a proposal that was taken
-abbrev KeptProposed : List ℕ → Result (List ℕ) Refusal → Type 0
-KeptProposed m (Ok m₁) = Kept m m₁
-KeptProposed m (Err why) = Unit {0}
-
-kept_as : (m v : List ℕ) (r : Role) → KeptProposed m (propose_as m (loaded m) r v)
-kept_as m v (Follower e) = tt
-kept_as m v (Candidate e) = tt
-kept_as m v Leader =
-    cond_both (value_fits m (length v)) (Ok (taken m (loaded m) v)) (Err Full) (λ p. KeptProposed m p) (λ f. kept_taken m (loaded m) (loaded_small m) v f) (λ _. tt)
+      let short : length v ≤ 256 = leb-true (length v) 256 (and_parts (leb (length v) 256) (ltb (last_index m) 8193 && ltb (values m) 4096) f).0 in
+      kept_over _ (with_unsettled x) (kept_own_ack (value_appended m x.term.0 v) (last_index m + 1) (appended_kept m m x.term.0 v (kept m) (λ h. (small h).term) short))
+      (λ h. unsettled_small elapsed_word x (small h))
 
 kept_proposed : (m v : List ℕ) → KeptProposed m (proposed m v)
-unfolding proposed
-kept_proposed m v =
-    cond_both (ltb 256 (length v)) (Err TooLong) (propose_as m (loaded m) (loaded m).role v) (λ p. KeptProposed m p) (λ _. tt) (λ _. kept_as m v (loaded m).role)
+kept_proposed m v = kept_asked (λ f. kept_taken m (loaded m) (loaded_small m) v f) (asked m v)
 
 kept_go_on : (m : List ℕ) → Kept m (go_on m).memory
 unfolding go_on advanced
 kept_go_on m =
     cond_both (loaded m).unsettled (answer (stored m (settled (loaded m))) settle) (apply_due m (loaded m) (due m)) (λ s. Kept m s.memory)
-    (λ _. kept_stored m (settled (loaded m)) (λ h. let y = loaded_small m h in record { size = y.size; id = y.id; term = y.term; since = y.since; waits = y.waits }))
+    (λ _. kept_stored m (settled (loaded m)) (λ h. settled_small elapsed_word (loaded m) (loaded_small m h)))
     (λ _. cond_both (ltb (applied_number m) (decided m)) (Some (applied_number m)) None (λ o. Kept m (apply_due m (loaded m) o).memory)
-    (λ _. then_kept
-    (kept_stored m (applied_up_to (loaded m) (applied_number m + 1)) (λ h. let y = loaded_small m h in record { size = y.size; id = y.id; term = y.term; since = omega (arith, applied_most m); waits = y.waits }))
-    (kept_applied _ (applied_number m + 1) (omega (arith, applied_most m))))
+    (λ _. applied_kept m _ (applied_number m + 1)
+    (kept_stored m (applied_up_to (loaded m) (applied_number m + 1)) (λ h. applied_small elapsed_word (loaded m) (loaded_small m h) (applied_number m + 1) (omega (arith, applied_most m))))
+    (omega (arith, applied_most m)))
     (λ _. kept m))
 
 kept_after : (m : List ℕ) (p : Result (List ℕ) Refusal) → KeptProposed m p → Kept m (after_proposal m p).memory
@@ -260,15 +163,6 @@ kept_step m (said how_far) = kept m
 kept_step m (came i bs) = kept m
 kept_step m tick = then_kept (kept_tick m (loaded m) (loaded_small m) (loaded m).role) (kept_go_on (ticked m))
 kept_step m next = kept_go_on m
-
-zeros_zero : (n : ℕ) → every (λ m. eqb m 0) (zeros n) ≡ true
-unfolding zeros every
-zeros_zero zero = refl
-zeros_zero (suc n) = zeros_zero n
-
-start_zero : every (λ m. eqb m 0) start ≡ true
-unfolding start
-start_zero = zeros_zero memory_words
 
 pub steady : Steady own
 unfolding Steady own

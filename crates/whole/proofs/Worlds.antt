@@ -9,7 +9,10 @@ use Rattle.whole.proofs.Kept.{WholeKept, CutKept}
 use Rattle.whole.proofs.Holds.{Holds}
 use Rattle.whole.proofs.Going.{Stable, Rests}
 use Rattle.whole.proofs.Runs.{Went, Quiet, went_fine, grown_none, went_power, ends_power, went_tick, ends_tick, went_how_far, shown, went_propose, ends_propose}
-use Rattle.whole.proofs.Orders.{same_self, at_set_same, at_set_other, length_set_machine}
+use Rattle.together.proofs.Lists.{same_self}
+use Rattle.whole.proofs.Orders.{at_set_same, at_set_other, length_set_machine}
+use Rattle.whole.proofs.Plans.{quiet_ends}
+use Rattle.whole.proofs.Orders.{machine_here}
 
 -- acts that are enough for any event
 abbrev pub enough : ℕ
@@ -110,18 +113,15 @@ pub record GoesRight (many k : ℕ) (w : World) (t : Thing) : Type 0 where
   pub ends : may_end w t (thing_ran enough own w t) ≡ true
   pub over : (thing_ran enough own w t).end ≢ 1000
 
-quiet_ends : {r : Ran} → Quiet r → (eqb r.end 0 && none_of r.showed) ≡ true
-unfolding none_of
-quiet_ends q = rw (q.over, q.still)
+ends_quiet : {r : Ran} → Quiet r → (eqb r.end 0 && none_of r.showed) ≡ true
+ends_quiet {r} q = quiet_ends r q.over q.still
 
 quiet_over : {r : Ran} → Quiet r → r.end ≢ 1000
 quiet_over q = λ e. omega (arith, q.over, e)
 
 module _ (many k : ℕ) (w : World) (g : Good many k w) where
   here : (h : ℕ) (u : Bool) → (ltb h (length w.machines) && u) ≡ true → (h < many) × (u ≡ true)
-  here h u p =
-      let q = and_parts (ltb h (length w.machines)) u p in
-      (omega (arith, ltb-true h (length w.machines) q.0, g.number), q.1)
+  here h u p = machine_here w.machines many h u g.number p
 
   power_right : (h : ℕ) → proper w (power h) ≡ true → GoesRight many k w (power h)
   unfolding proper to_whom event_for before with_proposal may_end
@@ -138,7 +138,7 @@ module _ (many k : ℕ) (w : World) (g : Good many k w) where
         went = λ n.
             subst (λ (j : ℕ). Went many h (suc k) w.proposed w.order (far x.how_it_got.ever []) (runs n own x.stable x.stable (on h j) [] [] []) w.proposed) (sym g.number)
             (went_power many h k w.proposed w.order g.ordered g.short x.stable x.how_it_got.ever st s.ever l g.few n);
-        ends = quiet_ends q;
+        ends = ends_quiet q;
         over = quiet_over q;
       }
 
@@ -154,7 +154,7 @@ module _ (many k : ℕ) (w : World) (g : Good many k w) where
         went = λ n.
             went_fine many h (suc k) w.proposed w.order x.how_it_got _ w.proposed w.order (grown_none many h (suc k) w.proposed w.order g.ordered g.short)
             (went_tick many h k w.proposed w.order g.ordered g.short x.memory x.stable x.how_it_got (s.live both.1) s.stable n);
-        ends = quiet_ends q;
+        ends = ends_quiet q;
         over = quiet_over q;
       }
 

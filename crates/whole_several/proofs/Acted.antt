@@ -13,7 +13,7 @@ use Rattle.machine.specs.Machine.{Machine, Out, Outcome, Input, Persistent, pers
 use Rattle.machine.specs.Step.{step}
 use Rattle.machine.specs.Maps.{map_log, map_machine, map_outcome}
 use Rattle.machine.specs.World.{World as Theory, Mail, post, longer, Fate, whole, early, late, Item, input, Possible, Unchanged, Settles, Allowed, proposals_after, settled, next, Reachable}
-use Rattle.machine.proofs.MapLogs.{log_length}
+use Rattle.machine.proofs.MapLogs.{term_map, log_length}
 use Rattle.machine.proofs.Terms.{TermsBelow, terms_next}
 use Rattle.machine.proofs.Steps.{runs_one, order_grows, step_decided}
 use Rattle.machine.proofs.Sames.{same_log, step_extends}
@@ -28,12 +28,6 @@ use Rattle.whole_several.proofs.Joined.{Agrees, Going, Rests, Safe, Carried, Box
 use Rattle.whole_several.proofs.Sent.{MailFits, as_wire, agrees_self, in_left, in_right, carried_all, boxes_all}
 use Rattle.whole_several.proofs.Made.{made, made_settle, going_fit, going_decided, safe_going, Fine, made_fine}
 use Rattle.whole_several.proofs.Views.{decided_is}
-
--- the terms of a log do not depend on what its entries hold
-term_map : (g : ℕ → List ℕ) (l : Log ℕ) (i : ℕ) → term_at (map_log g l) i ≡ term_at l i
-term_map g [] i = refl
-term_map g (e ∷ es) zero = refl
-term_map g (e ∷ es) (suc i) = term_map g es i
 
 in_take : (h : ℕ) (k : ℕ) (os : List (Out ℕ)) (l : Mail) → In l (post h (take k os)) → In l (post h os)
 unfolding post

@@ -1,10 +1,10 @@
 -- The machine keeps to its plan: first memory is made safe, then letters fly, then what is decided is applied.
-use Rattle.std.proofs.Common.{◌≡◌, ℕ, zero, suc, ◌+◌, ◌-◌, ◌<◌, ◌≤◌, Bool, true, false, cond, leb, ◌≢◌, List, [], ◌∷◌, ◌++◌, length, get_or, Some, None, sym, refl, ap, ◌∙◌, subst, inl, inr, arith}
+use Rattle.std.proofs.Common.{◌≡◌, ℕ, suc, ◌+◌, ◌-◌, ◌<◌, ◌≤◌, Bool, true, false, cond, leb, ◌≢◌, List, [], ◌∷◌, ◌++◌, length, get_or, Some, None, sym, refl, ap, ◌∙◌, subst, inl, inr, arith}
 use Rattle.std.proofs.lemmas.Bool.{lt-ltb, le-ltb, le-leb, and_from, cond-true, cond-false, cases_Bool, cases_lt}
 use Rattle.raft_log.specs.Layout.{memory_words}
 use Rattle.raft_log.specs.Values.{value_at}
 use Rattle.raft_log.specs.Entries.{commit_index, applied_number, decided, applied_set}
-use Rattle.raft_log.proofs.LogLaws.{number_most, SameEntries, same_applied, applied_set_applied, applied_set_other, length_applied_set}
+use Rattle.raft_log.proofs.LogLaws.{number_most, applied_most, same_applied, applied_set_applied, applied_set_other, length_applied_set}
 use Rattle.messages.specs.Letter.{letter_bytes}
 use Rattle.messages.proofs.RoundTrip.{letter_all, letter_short}
 use Rattle.raft.specs.declared.header.Role.{Role}
@@ -13,13 +13,16 @@ use Rattle.raft.specs.Header.{loaded, stored}
 use Rattle.raft.specs.Outbox.{Mail, mail_due, flown_to}
 use Rattle.raft.specs.Apply.{settled, applied_up_to, due, advanced}
 use Rattle.raft.proofs.HeaderLaws.{Held, loaded_held, loaded_stored, loaded_alike, length_stored, stored_other}
-use Rattle.together.specs.Promise.{all_small, are_bytes, Act, flies, settle, applies, done, next, Step}
+use Rattle.together.specs.Promise.{all_small, are_bytes, Act, flies, settle, applies, done, next}
 use Rattle.together.specs.Machine.{answer, decisions_from}
 use Rattle.together_several.specs.Machine.{apply_due, send_due, go_on, own_step, letters_from, acts}
 use Rattle.together_several.specs.Entry.{own}
-use Rattle.whole.proofs.Plans.{Planned, PlannedAct}
-use Rattle.whole_several.proofs.Smalls.{Kept, kept_go_on, are_bytes_from}
-use Rattle.whole_several.proofs.Mails.{Still, still_entries, still_decided, mail_same, still_flown, flown_loaded, flown_applied, Flies, flies_first, MailsFit, mail_fits, no_way}
+use Rattle.whole.proofs.Plans.{PlannedAct, Planned, Turn, acting, ending, planned}
+use Rattle.together.proofs.Lists.{are_bytes_from}
+use Rattle.together.proofs.Smalls.{Kept}
+use Rattle.together.proofs.Decisions.{same_decisions}
+use Rattle.whole_several.proofs.Smalls.{kept_settled, kept_flown, kept_advanced}
+use Rattle.whole_several.proofs.Mails.{Still, still_entries, still_decided, mail_same, still_flown, flown_loaded, flown_applied, Flies, flies_first, MailsFit, mail_fits}
 
 -- memories that the machine runs on
 pub record Fit (m : List ℕ) : Type 0 where
@@ -32,15 +35,6 @@ kept_fit m m₁ k f = record { long = k.long ∙ f.long; small = k.small f.small
 -- memory after the first act that is due
 unfoldable pub rest : List ℕ → List ℕ
 rest m = (go_on m).memory
-
-pub rest_fit : (m : List ℕ) → Fit m → Fit (rest m)
-unfolding rest
-rest_fit m f = kept_fit m (go_on m).memory (kept_go_on m) f
-
-same_decisions : (m m₁ : List ℕ) → SameEntries m m₁ → (k n : ℕ) → decisions_from m₁ k n ≡ decisions_from m k n
-unfolding decisions_from
-same_decisions m m₁ s k zero = refl
-same_decisions m m₁ s k (suc n) = ap (λ v. applies (k + 1) v ∷ decisions_from m₁ (k + 1) n) (s.held k) ∙ ap (λ x. applies (k + 1) (value_at m k) ∷ x) (same_decisions m m₁ s (k + 1) n)
 
 -- what is to be applied
 abbrev pub applying_now : List ℕ → List Act
@@ -236,55 +230,23 @@ pub own_next : (m : List ℕ) → own.step m next ≡ go_on m
 unfolding own own_step
 own_next m = refl
 
--- one act and what is left after it, by its memory, the act and the plan
-pub record First (m : List ℕ) (a : Act) (as₁ : List Act) : Type 0 where
-  pub step : go_on m ≡ answer (rest m) a
-  pub then : acts (rest m) ≡ as₁
-  pub good : PlannedAct a
-
-first : (m : List ℕ) (a : Act) (as₁ : List Act) → Fit m → acts m ≡ a ∷ as₁ → First m a as₁
-unfolding rest
-first m a as₁ fit eq = by (goes m)
+turn : (m : List ℕ) → Fit m → Turn go_on Fit acts m
+turn m fit = by (goes m)
   where
     long : length m ≡ memory_words
     long = fit.long
 
-    this : (m₁ : List ℕ) (a₁ : Act) → PlannedAct a₁ → go_on m ≡ answer m₁ a₁ → acts m ≡ a₁ ∷ acts m₁ → First m a as₁
-    this m₁ a₁ p g e =
-        let ea : a₁ ≡ a = cc in
-        let es : acts m₁ ≡ as₁ = cc in
-        let em : (go_on m).memory ≡ m₁ = ap (λ (s : Step). s.memory) g in
-        record {
-          step = g ∙ (ap (λ x. answer x a₁) (sym em) ∙ ap (answer (go_on m).memory) ea);
-          then = ap acts em ∙ es;
-          good = subst (λ (x : Act). PlannedAct x) ea p;
-        }
-
-    by : Goes m → First m a as₁
-    by (settling u) = this (safe m long) settle tt (go_settle m long u) (acts_settle m long u)
+    by : Goes m → Turn go_on Fit acts m
+    by (settling u) = acting (safe m long) settle (kept_fit m (safe m long) (kept_settled m) fit) tt (go_settle m long u) (acts_settle m long u)
     by (flying u l ls e) =
-        this (flown m long u l ls e) (flies l.to (letter_bytes l.letter)) (may_fly m fit.small l ls e) (go_fly m long u l ls e) (acts_fly m long u l ls e)
-    by (applying u e l) = this (onward m long) (applies (applied_number m + 1) (value_at m (applied_number m))) tt (go_apply m long u e l) (acts_apply m long u e l)
-    by (resting u e l) = let x : [] ≡ a ∷ as₁ = sym (acts_done m long u e l) ∙ eq in no_way cc
-
-nothing_left : (m : List ℕ) → length m ≡ memory_words → acts m ≡ [] → go_on m ≡ answer m done
-nothing_left m long eq = by (goes m)
-  where
-    by : Goes m → go_on m ≡ answer m done
-    by (settling u) = let e : settle ∷ acts (safe m long) ≡ [] = sym (acts_settle m long u) ∙ eq in no_way cc
-    by (flying u l ls d) =
-        let e : flies l.to (letter_bytes l.letter) ∷ acts (flown m long u l ls d) ≡ [] = sym (acts_fly m long u l ls d) ∙ eq in no_way cc
-    by (applying u d l) =
-        let e : applies (applied_number m + 1) (value_at m (applied_number m)) ∷ acts (onward m long) ≡ [] = sym (acts_apply m long u d l) ∙ eq in no_way cc
-    by (resting u d l) = go_done m long u d l
+        acting (flown m long u l ls e) (flies l.to (letter_bytes l.letter)) (kept_fit m (flown m long u l ls e) (kept_flown m l.to) fit) (may_fly m fit.small l ls e) (go_fly m long u l ls e)
+        (acts_fly m long u l ls e)
+    by (applying u e l) =
+        acting (onward m long) (applies (applied_number m + 1) (value_at m (applied_number m)))
+        (kept_fit m (onward m long) (kept_advanced m (applied_number m + 1) (omega (arith, applied_most m))) fit) tt (go_apply m long u e l) (acts_apply m long u e l)
+    by (resting u e l) = ending (go_done m long u e l) (acts_done m long u e l)
 
 -- THE PLAN of the machine
 pub own_planned : Planned own Fit acts rest
-own_planned =
-    record {
-      none = λ m f e. own_next m ∙ nothing_left m f.long e;
-      some = λ m a as₁ f e. own_next m ∙ (first m a as₁ f e).step;
-      then = λ m a as₁ f e. (first m a as₁ f e).then;
-      fits = λ m a as₁ f e. rest_fit m f;
-      good = λ m a as₁ f e. (first m a as₁ f e).good;
-    }
+unfolding rest
+own_planned = planned own go_on Fit acts own_next turn

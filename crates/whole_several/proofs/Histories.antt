@@ -1,7 +1,7 @@
 -- What holds of all that ever happened: the same number is the same everywhere, one vote in a term, terms that only rise.
-use Rattle.std.proofs.Common.{◌≡◌, ℕ, zero, suc, ◌+◌, ◌-◌, ◌<◌, ◌≤◌, Bool, true, false, ◌&&◌, eqb, leb, List, [], ◌∷◌, ◌++◌, length, get_or, sym, refl, ap, ◌∙◌, subst, inl, inr, arith}
+use Rattle.std.proofs.Common.{◌≡◌, ℕ, zero, suc, ◌+◌, ◌-◌, ◌<◌, ◌≤◌, Bool, true, false, ◌&&◌, leb, List, [], ◌∷◌, ◌++◌, length, get_or, sym, refl, ap, ◌∙◌, subst, inl, inr, arith}
 use mathlib.Core.Option.{Option, none, some}
-use Rattle.std.proofs.lemmas.Bool.{eqb-true, leb-true, le-leb, and_parts, and_from, cases_Bool, false≢true}
+use Rattle.std.proofs.lemmas.Bool.{leb-true, le-leb, and_parts, and_from, cases_Bool, false≢true}
 use Rattle.messages.specs.Letter.{Letter as Message, request_vote_response, letter_of}
 use Rattle.protocol.specs.Lists.{In, All, Begins}
 use Rattle.protocol.proofs.Lists.{begins_at, begins_length, all_in}
@@ -16,12 +16,13 @@ use Rattle.join_several.specs.Stands.{conf}
 use Rattle.join_several.specs.Does.{lift_letter}
 use Rattle.together.specs.House.{pick, every, same, Applied, nth_value, by_order}
 use Rattle.together.specs.Promise.{machine_at, Flown, World, world, Thing, power, says, delivers, ticks, to_whom, event_for, proper, before, thing_ran, Ran, with_proposal, after_thing, Item, whole, cut}
+use Rattle.together.proofs.Lists.{every_append, same_equal}
 use Rattle.together_several.specs.Entry.{own}
 use Rattle.whole_several.specs.History.{enough, happens, history, first_world, after, term_of, SameNumber, OneVote, TermsLast}
 use Rattle.whole_several.proofs.Joined.{Agrees, Carried, Joined}
 use Rattle.whole_several.proofs.Moved.{Moved, agrees_later, moved_joined}
 use Rattle.whole_several.proofs.Sent.{agrees_self}
-use Rattle.whole_several.proofs.Things.{terms_later}
+use Rattle.whole_several.proofs.Events.{terms_later}
 use Rattle.whole_several.proofs.Worlds.{thing_right}
 use Rattle.whole_several.proofs.Main.{first_joined}
 
@@ -74,13 +75,6 @@ module _ (ps ps₁ : List (List ℕ)) (later : (g : ℕ → List ℕ) → Agrees
       let p = and_parts (by_order ps o a) (every (by_order ps o) as₁) e in
       and_from (by_order ps₁ o₁ a) (every (by_order ps₁ o₁) as₁) (by_one a p.0) (by_all as₁ p.1)
 
-every_both : (p : Applied → Bool) (as₁ bs : List Applied) → every p as₁ ≡ true → every p bs ≡ true → every p (as₁ ++ bs) ≡ true
-unfolding every
-every_both p [] bs e q = q
-every_both p (a ∷ as₁) bs e q =
-    let z = and_parts (p a) (every p as₁) e in
-    and_from (p a) (every p (as₁ ++ bs)) z.0 (every_both p as₁ bs z.1 q)
-
 every_in : (p : Applied → Bool) (as₁ : List Applied) (a : Applied) → every p as₁ ≡ true → In a as₁ → p a ≡ true
 unfolding every
 every_in p [] a e i = absurd i
@@ -114,7 +108,7 @@ module _ (n k : ℕ) (w₀ : Theory) (v : World) (low : k ≤ 8589934592) (z : C
       let below : (j : ℕ) → j < length z.beside.order → get_or z.beside.order j 0 < length v.proposed =
       subst (λ (a : ℕ). (j : ℕ) → j < length z.beside.order → get_or z.beside.order j 0 < a) (sym z.joined.proposals) (below_all z.beside.proposals z.beside.order ok) in
       let did : every (by_order ps₁ m.to.order) (v.all_did ++ r.did) ≡ true =
-      every_both (by_order ps₁ m.to.order) v.all_did r.did
+      every_append (by_order ps₁ m.to.order) v.all_did r.did
       (by_all v.proposed ps₁ (agrees_later v.proposed t r.end) z.beside.order m.to.order m.grows below v.all_did z.by) m.by in
       subst (λ (y : Ran). Came n (suc k) w₀ (after_thing v t y b v.order)) (same_ran v z.beside.order t i)
       (record {
@@ -177,18 +171,9 @@ unfolding every initial
 start_came n least few = record { beside = initial; joined = first_joined n least few; path = runs_none (conf n) initial; by = refl }
 
 -- THE SAME NUMBER is the same everywhere
-same_true : (x y : List ℕ) → same x y ≡ true → x ≡ y
-unfolding same
-same_true [] [] e = refl
-same_true [] (y ∷ ys) e = absurd (false≢true e)
-same_true (x ∷ xs) [] e = absurd (false≢true e)
-same_true (x ∷ xs) (y ∷ ys) e =
-    let p = and_parts (eqb x y) (same xs ys) e in
-    λ i. eqb-true x y p.0 i ∷ same_true xs ys p.1 i
-
 by_value : (ps : List (List ℕ)) (o : List ℕ) (a : Applied) → by_order ps o a ≡ true → a.value ≡ nth_value ps (get_or o (a.index - 1) 0)
 by_value ps o a e =
-    same_true a.value (nth_value ps (get_or o (a.index - 1) 0)) (and_parts (leb 1 a.index && leb a.index (length o)) (same a.value (nth_value ps (get_or o (a.index - 1) 0))) e).1
+    same_equal a.value (nth_value ps (get_or o (a.index - 1) 0)) (and_parts (leb 1 a.index && leb a.index (length o)) (same a.value (nth_value ps (get_or o (a.index - 1) 0))) e).1
 
 pub same_number : SameNumber
 unfolding SameNumber

@@ -8,8 +8,12 @@ pub mod Acts
 pub mod Made
 pub mod Acted
 pub mod Inputs
+pub mod Proposed
 pub mod Steady
-pub mod Things
+pub mod Events
+pub mod Letters
+pub mod Commands
+pub mod Powers
 pub mod Worlds
 pub mod Lone
 pub mod Rounds

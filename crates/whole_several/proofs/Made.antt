@@ -1,12 +1,12 @@
 -- What is due after an event is done, as far as power lasts: letters fly and decisions are applied in turn, and memory stands for the same machine all along.
-use Rattle.std.proofs.Common.{◌≡◌, ℕ, zero, suc, ◌+◌, ◌-◌, ◌<◌, ◌≤◌, Bool, true, false, cond, ◌&&◌, ltb, leb, ◌⊎◌, List, [], ◌∷◌, ◌++◌, length, get_or, take, Some, None, Option, sym, refl, ap, ◌∙◌, subst, inl, inr, arith}
-use Rattle.std.proofs.lemmas.List.{get_or-set_same, length-append}
-use Rattle.std.proofs.lemmas.Bool.{ltb-true, ltb-false, le-leb, eq-eqb, and_from, true≢false}
+use Rattle.std.proofs.Common.{◌≡◌, ℕ, zero, suc, ◌+◌, ◌-◌, ◌<◌, ◌≤◌, Bool, true, false, cond, ◌⊎◌, List, [], ◌∷◌, ◌++◌, length, get_or, take, Some, None, Option, sym, refl, ap, ◌∙◌, subst, inl, inr, arith}
+use Rattle.std.proofs.lemmas.List.{length-append}
+use Rattle.std.proofs.lemmas.Bool.{eq-eqb, and_from, true≢false}
 use Rattle.raft_log.specs.Layout.{memory_words}
 use Rattle.raft_log.specs.Values.{value_at}
 use Rattle.raft_log.specs.Entries.{commit_index, applied_number, applied_set, decided as decided_number}
 use Rattle.raft_log.proofs.LogLaws.{number_most}
-use Rattle.raft_log.proofs.LogChanges.{same_tidy}
+use Rattle.raft_log.proofs.LogChanges.{same_tidy, applied_set_word}
 use Rattle.raft.specs.declared.header.Role.{Role as Kind}
 use Rattle.raft.specs.declared.header.Machine.{Machine as Header}
 use Rattle.raft.specs.Header.{loaded, stored}
@@ -20,28 +20,28 @@ use Rattle.machine.specs.Machine.{Machine, decided}
 use Rattle.machine.specs.Maps.{map_machine}
 use Rattle.join_several.specs.Stands.{lift_log, RoleStands, Stands}
 use Rattle.join_several.proofs.Frames.{role_alike}
-use Rattle.together.specs.House.{pick, every, each, same, Applied, applied, Far, next_ok, may_apply, larger, got_to, all_in_turn, far_after, nth_value, by_order}
+use Rattle.together.specs.House.{every, each, Applied, applied, Far, next_ok, may_apply, got_to, all_in_turn, far_after, nth_value, by_order}
 use Rattle.together.specs.Promise.{Act, settle, Step, Letter as Wire, Ran, ran, last_since, all_small}
 use Rattle.together.specs.Machine.{decisions_from}
 use Rattle.together_several.specs.Machine.{acts, letters_from}
 use Rattle.together_several.specs.Entry.{own}
 use Rattle.whole.proofs.Plans.{letters_in, decisions_in, memory_after, stable_after, end_after, first_acts, outcome, end_done}
-use Rattle.whole.proofs.Orders.{same_self}
+use Rattle.together.proofs.Lists.{larger_left, larger_right, larger_le}
+use Rattle.together.proofs.Decisions.{decisions_many}
 use Rattle.whole_several.proofs.Smalls.{kept_settled, kept_flown, kept_advanced}
 use Rattle.whole_several.proofs.Mails.{Still, still_log, still_commit, still_decided, still_entries, flown_loaded, flown_other, flies_first as mail_first}
 use Rattle.whole_several.proofs.Acts.{Fit, rest, safe, safe_still, safe_applied, safe_since, go_settle, acts_settle, flown_still, flown_mail, flown_same, go_fly, acts_fly, onward, onward_loaded, onward_still, onward_mail, onward_applied, go_apply, acts_apply, acts_done, Goes, settling, flying, applying, resting, goes, own_planned}
 use Rattle.whole_several.proofs.Views.{decided_is, value_is}
 use Rattle.whole_several.proofs.Joined.{Going, Rests}
 use Rattle.whole_several.proofs.Sent.{as_wire, agrees_self}
+use Rattle.whole.proofs.Plans.{applies_first}
+use Rattle.whole.proofs.Orders.{by_next}
 
 -- what at most n acts make of memory m, of which s is stable
 abbrev pub made : ℕ → List ℕ → List ℕ → Ran
 made n m s = outcome own Fit acts rest own_planned n (acts m) m s [] [] []
 
 -- it did this first
-abbrev pub applies_first : Applied → Ran → Ran
-applies_first a r = ran r.memory r.stable r.flew (a ∷ r.did) r.showed r.end
-
 abbrev pub flies_first : Wire → Ran → Ran
 flies_first l r = ran r.memory r.stable (l ∷ r.flew) r.did r.showed r.end
 
@@ -97,32 +97,6 @@ still_stands n h m m₁ y few s low t =
       role = subst (λ (k : Kind). RoleStands n m₁ k y) (sym s.role) (role_alike n m m₁ (loaded m).role y few s.rows t.role);
     }
 
-larger_left : (a b : ℕ) → a ≤ larger a b
-larger_left a b = go (ltb a b) refl
-  where
-    go : (t : Bool) → ltb a b ≡ t → a ≤ pick t b a
-    go true e = omega (arith, ltb-true a b e)
-    go false e = omega arith
-
-larger_right : (a b : ℕ) → b ≤ larger a b
-larger_right a b = go (ltb a b) refl
-  where
-    go : (t : Bool) → ltb a b ≡ t → b ≤ pick t b a
-    go true e = omega arith
-    go false e = omega (arith, ltb-false a b e)
-
-larger_le : (a b n : ℕ) → a ≤ n → b ≤ n → larger a b ≤ n
-larger_le a b n p q = go (ltb a b)
-  where
-    go : (t : Bool) → pick t b a ≤ n
-    go true = q
-    go false = p
-
--- the word that is set
-set_word : (m : List ℕ) (k : ℕ) → length m ≡ memory_words → get_or (applied_set m k) 66 0 ≡ k
-unfolding applied_set
-set_word m k long = get_or-set_same m 66 k 0 (omega arith)
-
 -- machine h of n, which has become x; the order o has what x holds for decided
 module _ (n h : ℕ) (few : n ≤ 7) (ps : List (List ℕ)) (x : Machine ℕ) where
   -- the memory of a machine that goes on
@@ -177,7 +151,7 @@ module _ (n h : ℕ) (few : n ≤ 7) (ps : List (List ℕ)) (x : Machine ℕ) wh
     unfolding advanced
     onward_word =
         let t = g.means (nth_value ps) (agrees_self ps) in
-        let e : get_or (applied_set (stored m (applied_up_to (loaded m) (j + 1))) (j + 1)) 66 0 ≡ j + 1 = set_word (stored m (applied_up_to (loaded m) (j + 1))) (j + 1) (length_stored m (applied_up_to (loaded m) (j + 1)) ∙ fit.long) in
+        let e : get_or (applied_set (stored m (applied_up_to (loaded m) (j + 1))) (j + 1)) 66 0 ≡ j + 1 = applied_set_word (stored m (applied_up_to (loaded m) (j + 1))) (j + 1) (length_stored m (applied_up_to (loaded m) (j + 1)) ∙ fit.long) in
         omega (arith, number_most m (commit_index m))
 
     onward_going : Going n h ps x (onward m fit.long) (got_to f (j + 1))
@@ -205,11 +179,7 @@ module _ (n h : ℕ) (few : n ≤ 7) (ps : List (List ℕ)) (x : Machine ℕ) wh
           let d = going_decided m f g in
           let k : j < length (decided x) = omega arith in
           let in_order : j < length o = omega (arith, begins_length (decided x) o ordered) in
-          let v : value_at m j ≡ nth_value ps (get_or o (j + 1 - 1) 0) =
-          value_is m t.tidy x (nth_value ps) t.log t.commit j l ∙ (ap (nth_value ps) (begins_at 0 (decided x) o j k ordered) ∙ ap (λ (i : ℕ). nth_value ps (get_or o i 0)) (let q : j ≡ j + 1 - 1 = omega arith in q)) in
-          and_from (leb 1 (j + 1) && leb (j + 1) (length o)) (same (value_at m j) (nth_value ps (get_or o (j + 1 - 1) 0)))
-          (and_from (leb 1 (j + 1)) (leb (j + 1) (length o)) (le-leb 1 (j + 1) (omega arith)) (le-leb (j + 1) (length o) (omega arith)))
-          (subst (λ (z : List ℕ). same (value_at m j) z ≡ true) v (same_self (value_at m j)))
+          by_next ps o j (value_at m j) in_order (value_is m t.tidy x (nth_value ps) t.log t.commit j l ∙ ap (nth_value ps) (begins_at 0 (decided x) o j k ordered))
 
   module _ (o : List ℕ) (ordered : Begins (decided x) o) where
     -- how the acts went: so many letters flew, and what was applied is right
@@ -302,11 +272,6 @@ letters_many : (ls : List DueMail) → length (letters_from ls) ≡ length ls
 unfolding letters_from
 letters_many [] = refl
 letters_many (l ∷ ls) = ap suc (letters_many ls)
-
-decisions_many : (m : List ℕ) (k n : ℕ) → length (decisions_from m k n) ≡ n
-unfolding decisions_from
-decisions_many m k zero = refl
-decisions_many m k (suc n) = ap suc (decisions_many m (k + 1) n)
 
 mail_many : (m : List ℕ) (j n : ℕ) → length (mail_from m j n) ≤ n
 unfolding mail_from

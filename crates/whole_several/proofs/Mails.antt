@@ -1,27 +1,28 @@
 -- What the acts leave of a memory as it is, and the letters that are due in it.
-use Rattle.std.proofs.Common.{◌≡◌, ℕ, zero, suc, ◌+◌, ◌-◌, ◌<◌, ◌≤◌, true, false, ◌≢◌, List, [], ◌∷◌, ◌++◌, map, length, get_or, set, Some, None, Option, sym, refl, ap, ◌∙◌, arith}
+use Rattle.std.proofs.Common.{◌≡◌, ℕ, zero, suc, ◌+◌, ◌-◌, ◌<◌, ◌≤◌, true, ◌≢◌, List, [], ◌∷◌, ◌++◌, length, get_or, set, Some, None, Option, sym, refl, ap, ◌∙◌, arith}
 use Rattle.std.proofs.lemmas.List.{length-set, get_or-set_same, get_or-set_other}
-use Rattle.std.specs.List.{range_with_len}
 use Rattle.raft_log.specs.Layout.{memory_words}
-use Rattle.raft_log.specs.Entries.{last_index, commit_index, term_at, number_at, decided, applied_number}
-use Rattle.raft_log.specs.Block.{Entry, log_entry, log_entries}
+use Rattle.raft_log.specs.Entries.{last_index, commit_index, decided, applied_number}
 use Rattle.raft_log.specs.View.{log_of}
 use Rattle.raft_log.proofs.ValueLaws.{at_most_le}
 use Rattle.raft_log.proofs.BlockWrites.{length_log_entries}
 use Rattle.raft_log.proofs.LogFits.{term_small, log_entries_fit}
-use Rattle.raft_log.proofs.LogLaws.{last_most, commit_most, SameEntries, same_entries, same_commit, same_applied}
+use Rattle.raft_log.proofs.LogLaws.{last_most, commit_most, SameEntries, same_entries, same_commit, same_decided, same_applied}
 use Rattle.raft_log.proofs.LogChanges.{same_log}
-use Rattle.messages.specs.Letter.{Letter, append, request_vote, request_vote_response, term_notice, LetterFits}
+use Rattle.messages.specs.Letter.{LetterFits}
 use Rattle.raft.specs.declared.header.Role.{Role}
 use Rattle.raft.specs.declared.header.Machine.{Machine}
 use Rattle.raft.specs.declared.say.Due.{Due}
 use Rattle.raft.specs.declared.say.Due.TheVariants.{Append, RequestVote, TellTerm, Grant, Deny, Accept, Reject}
 use Rattle.raft.specs.Header.{loaded}
 use Rattle.raft.proofs.HeaderLaws.{loaded_alike}
+use Rattle.raft.proofs.Mails.{mails_alike}
 use Rattle.together.specs.Promise.{all_small}
-use Rattle.whole_several.proofs.Smalls.{small_word, small_words, loaded_small}
+use Rattle.together.proofs.Smalls.{small_word, small_words}
+use Rattle.whole_several.proofs.Smalls.{loaded_small}
 use Rattle.raft.specs.Say.{due_of}
 use Rattle.raft.specs.Outbox.{due_to, prev_of, count_of, letter_made, Mail, mail, mail_at, mail_from, mail_due, flown_to}
+use Rattle.together.proofs.Lists.{no_way}
 
 -- WHAT NO ACT CHANGES: who the machine is, its term and role, its rows, its log and what of it is decided
 pub record Still (m m₁ : List ℕ) : Type 0 where
@@ -44,64 +45,12 @@ module _ (m m₁ : List ℕ) (s : Still m m₁) where
   still_log = same_log m m₁ still_entries
 
   pub still_decided : decided m₁ ≡ decided m
-  still_decided = ap (number_at m₁) still_commit ∙ still_entries.numbers (commit_index m)
-
-  -- the letters are made of the same
-  entry_same : (i : ℕ) → log_entry m₁ i ≡ log_entry m i
-  entry_same i =
-      let t = still_entries.terms i in
-      let a = still_entries.numbers i in
-      let b = still_entries.numbers (i - 1) in
-      let v = still_entries.held (number_at m i - 1) in
-      rw (t, a, b, v)
-
-  entries_map : (xs : List ℕ) → map (λ i. log_entry m₁ i) xs ≡ map (λ i. log_entry m i) xs
-  entries_map [] = refl
-  entries_map (x ∷ xs) = ap (λ (e : Entry). e ∷ map (λ i. log_entry m₁ i) xs) (entry_same x) ∙ ap (λ (es : List Entry). log_entry m x ∷ es) (entries_map xs)
-
-  pub entries_same : (f n : ℕ) → log_entries m₁ f n ≡ log_entries m f n
-  unfolding log_entries
-  entries_same f n = entries_map (range_with_len f n)
-
-  term_same : (loaded m₁).term.0 ≡ (loaded m).term.0
-  term_same = rw s.term
-
-  prev_same : (j : ℕ) → j < 7 → prev_of m₁ j ≡ prev_of m j
-  prev_same j l = rw (s.rows (22 + j) (omega arith) (omega arith), still_entries.last)
-
-  count_same : (j : ℕ) → j < 7 → count_of m₁ j ≡ count_of m j
-  count_same j l = rw (s.rows (22 + j) (omega arith) (omega arith), still_entries.last)
-
-  pub letter_same : (j : ℕ) (d : Due) → j < 7 → letter_made m₁ (loaded m₁) j d ≡ letter_made m (loaded m) j d
-  letter_same j Append l =
-      let p : ℕ = prev_of m j in
-      ap (λ (t : ℕ). append t (prev_of m₁ j) (term_at m₁ (prev_of m₁ j)) (commit_index m₁) (log_entries m₁ (prev_of m₁ j + 1) (count_of m₁ j))) term_same
-      ∙ (ap (λ (q : ℕ). append (loaded m).term.0 q (term_at m₁ q) (commit_index m₁) (log_entries m₁ (q + 1) (count_of m₁ j))) (prev_same j l)
-      ∙ (ap (λ (q : ℕ). append (loaded m).term.0 p q (commit_index m₁) (log_entries m₁ (p + 1) (count_of m₁ j))) (still_entries.terms p)
-      ∙ (ap (λ (q : ℕ). append (loaded m).term.0 p (term_at m p) q (log_entries m₁ (p + 1) (count_of m₁ j))) still_commit
-      ∙ (ap (λ (q : ℕ). append (loaded m).term.0 p (term_at m p) (commit_index m) (log_entries m₁ (p + 1) q)) (count_same j l)
-      ∙ ap (λ (es : List Entry). append (loaded m).term.0 p (term_at m p) (commit_index m) es) (entries_same (p + 1) (count_of m j))))))
-  letter_same j RequestVote l =
-      ap (λ (t : ℕ). request_vote t (last_index m₁) (term_at m₁ (last_index m₁))) term_same
-      ∙ (ap (λ (i : ℕ). request_vote (loaded m).term.0 i (term_at m₁ i)) still_entries.last ∙ ap (request_vote (loaded m).term.0 (last_index m)) (still_entries.terms (last_index m)))
-  letter_same j TellTerm l = ap term_notice term_same
-  letter_same j Grant l = ap (λ (t : ℕ). request_vote_response t true) term_same
-  letter_same j Deny l = ap (λ (t : ℕ). request_vote_response t false) term_same
-  letter_same j Accept l = rw (term_same, s.behind 36 (omega arith) (omega arith))
-  letter_same j Reject l = rw (term_same, s.behind 36 (omega arith) (omega arith), s.behind 37 (omega arith) (omega arith))
-
-  mail_same_at : (j : ℕ) (o : Option Due) → j < 7 → mail_at m₁ (loaded m₁) j o ≡ mail_at m (loaded m) j o
-  mail_same_at j (Some d) l = ap (λ (x : Letter). mail j x ∷ []) (letter_same j d l)
-  mail_same_at j None l = refl
+  still_decided = same_decided m m₁ still_entries still_commit
 
   -- THE LETTERS ARE THE SAME wherever the words that say which are due are
   pub mail_same : (j n : ℕ) → j + n ≤ 7 → ((i : ℕ) → j ≤ i → i < j + n → get_or m₁ (29 + i) 0 ≡ get_or m (29 + i) 0) → mail_from m₁ j n ≡ mail_from m j n
-  unfolding mail_from
-  mail_same j zero l h = refl
-  mail_same j (suc n) l h =
-      ap (λ (w : ℕ). mail_at m₁ (loaded m₁) j (due_of w) ++ mail_from m₁ (suc j) n) (h j (omega arith) (omega arith))
-      ∙ (ap (λ (x : List Mail). x ++ mail_from m₁ (suc j) n) (mail_same_at j (due_to m j) (omega arith))
-      ∙ ap (λ (x : List Mail). mail_at m (loaded m) j (due_to m j) ++ x) (mail_same (suc j) n (omega arith) (λ i a b. h i (omega arith) (omega arith))))
+  mail_same =
+      mails_alike m m₁ still_entries still_commit (rw s.term) (λ i a b. s.rows i (omega arith) b) (s.behind 36 (omega arith) (omega arith)) (s.behind 37 (omega arith) (omega arith))
 
 -- A LETTER FLIES: the words that it is made of stay
 pub still_flown : (m : List ℕ) (j : ℕ) → j < 7 → Still m (flown_to m j)
@@ -139,9 +88,6 @@ pub record Flies (m : List ℕ) (j n : ℕ) (l : Mail) (ls : List Mail) : Type 0
   pub least : j ≤ l.to
   pub most : l.to < j + n
   pub left : mail_from (flown_to m l.to) j n ≡ ls
-
-pub no_way : {A : Type 0} → ◌≡◌ {A = ℕ} 0 1 → A
-no_way e = absurd (omega arith)
 
 none_not_some : {A B : Type 0} (x : A) (xs : List A) → [] ≡ x ∷ xs → B
 none_not_some x xs e = no_way cc

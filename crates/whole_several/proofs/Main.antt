@@ -1,11 +1,9 @@
 -- The main promise for the machine.
-use Rattle.std.proofs.Common.{◌≡◌, ℕ, ◌≤◌, false, eqb, List, [], ◌∷◌, length, get_or, sym, refl, ap, ◌∙◌, subst, inl, inr, arith}
-use Rattle.std.proofs.lemmas.List.{get_or-replicate, get_or_past}
-use Rattle.std.proofs.lemmas.Bool.{eqb-true, cases_lt, false≢true}
-use Rattle.raft_log.specs.Layout.{memory_words, at_most}
+use Rattle.std.proofs.Common.{◌≡◌, ℕ, ◌≤◌, false, eqb, List, [], ◌∷◌, length, sym, refl, ap, ◌∙◌, subst, arith}
+use Rattle.std.proofs.lemmas.Bool.{eqb-true, false≢true}
 use Rattle.raft_log.specs.View.{log_of, Tidy}
 use Rattle.raft_log.specs.Block.{Entry as Row}
-use Rattle.raft_log.specs.Entries.{last_index, commit_index, applied_number}
+use Rattle.raft_log.specs.Entries.{commit_index}
 use Rattle.raft_log.proofs.LogLaws.{commit_most}
 use Rattle.raft_log.proofs.ViewLaws.{length_log}
 use Rattle.raft.specs.Header.{loaded}
@@ -15,33 +13,18 @@ use Rattle.machine.proofs.Steps.{runs_none}
 use Rattle.join_several.specs.Stands.{conf, lift_log}
 use Rattle.together.specs.House.{far}
 use Rattle.together.specs.Promise.{Machine, machine, so_many, world, Right, Whole}
-use Rattle.together.specs.Machine.{zeros, start}
+use Rattle.together.specs.Machine.{start}
 use Rattle.together_several.specs.Entry.{own}
-use Rattle.together.proofs.Lengths.{length_zeros, length_start}
+use Rattle.together.proofs.Lengths.{length_start}
+use Rattle.together.proofs.Starts.{start_at, small_start, start_last, start_applied}
 use Rattle.whole.proofs.Kept.{Keeps, keeps_right}
-use Rattle.whole_several.proofs.Steady.{steady, small_start}
+use Rattle.whole_several.proofs.Steady.{steady}
 use Rattle.whole_several.proofs.Joined.{Safe, Joined}
 use Rattle.whole_several.proofs.Worlds.{Good, whole_kept, cut_kept}
 use Rattle.whole_several.proofs.Solo.{calm_alone}
 use Rattle.whole.proofs.Orders.{at_so_many, length_so_many}
 
 -- AT THE START memory is all 0
-zeros_at : (n i : ℕ) → get_or (zeros n) i 0 ≡ 0
-unfolding zeros
-zeros_at n i = elim (cases_lt i n) [ inl l ↦ get_or-replicate n i 0 0 l | inr l ↦ get_or_past (zeros n) i 0 (omega (arith, length_zeros n)) ]
-
-start_at : (i : ℕ) → get_or start i 0 ≡ 0
-unfolding start
-start_at i = zeros_at memory_words i
-
-start_last : last_index start ≡ 0
-unfolding last_index
-start_last = ap (λ x. at_most x 8193) (start_at 64)
-
-start_applied : applied_number start ≡ 0
-unfolding applied_number
-start_applied = ap (λ x. at_most x 4096) (start_at 66)
-
 start_term : (loaded start).term.0 ≡ 0
 unfolding loaded
 start_term = start_at 2

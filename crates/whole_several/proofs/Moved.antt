@@ -4,7 +4,7 @@ use Rattle.std.proofs.lemmas.List.{length_push}
 use Rattle.std.proofs.lemmas.Bool.{lt-ltb, eq-eqb, ne_eqb, and_from, cases_eq, not_from_false, false≢true}
 use Rattle.protocol.specs.Lists.{In, All, Apart, Begins}
 use Rattle.protocol.proofs.Updates.{upd_same}
-use Rattle.protocol.proofs.Lists.{begins_length}
+use Rattle.protocol.proofs.Lists.{all_both, begins_length}
 use Rattle.machine.specs.Machine.{Out, Input}
 use Rattle.machine.specs.Step.{step}
 use Rattle.machine.specs.World.{World as Theory, Mail, post, whole, input, next, initial, RunsTo, Reachable}
@@ -118,10 +118,6 @@ module _ (ps ps₁ : List (List ℕ)) (later : (g : ℕ → List ℕ) → Agrees
     all_carried : (ls : List Flown) → All (Carried ps w) ls → All (Carried ps₁ w₁) ls
     all_carried [] h = tt
     all_carried (l ∷ ls) h = (carried_later l h.0, all_carried ls h.1)
-
-pub all_both : {A : Type 0} (P : A → Type 0) (xs ys : List A) → All P xs → All P ys → All P (xs ++ ys)
-all_both P [] ys p q = q
-all_both P (x ∷ xs) ys p q = (p.0, all_both P xs ys p.1 q)
 
 module _
     (n k : ℕ) (v : World) (w : Theory) (j : Joined n k v w) (t : Thing) (r : Ran) (up : Bool) (here : to_whom v t < n)

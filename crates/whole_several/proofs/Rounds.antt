@@ -17,7 +17,7 @@ use Rattle.whole_several.proofs.Joined.{Rests, Joined}
 use Rattle.whole_several.proofs.Moved.{Became, became_now, became_silent, moved_joined}
 use Rattle.whole_several.proofs.Made.{going_decided}
 use Rattle.whole_several.proofs.Lone.{Leads, Near, near_tick}
-use Rattle.whole_several.proofs.Things.{enough, tick_became}
+use Rattle.whole_several.proofs.Events.{enough, tick_became}
 
 -- at rest all that is decided is applied
 pub rests_since : (n h : ℕ) → n ≤ 7 → (ps : List (List ℕ)) (x : Model ℕ) (m : List ℕ) (f : Far) → Rests n h ps x m f → last_since f.since ≡ length (decided x)

@@ -11,7 +11,7 @@ use Rattle.join_several.specs.Does.{lift_mail}
 use Rattle.together.specs.House.{each, nth_value}
 use Rattle.together.specs.Promise.{Letter as Wire, letter, flown}
 use Rattle.whole_several.proofs.Joined.{Agrees, Carried, Boxes}
-use Rattle.whole_several.proofs.Smalls.{are_bytes_from}
+use Rattle.together.proofs.Lists.{are_bytes_from}
 
 pub in_left : {A : Type 0} (x : A) (xs ys : List A) → In x xs → In x (xs ++ ys)
 in_left x [] ys i = absurd i

@@ -1,14 +1,12 @@
 -- One machine alone, in calm: it comes to lead, and then what is proposed is decided and applied at once.
-use Rattle.std.proofs.Common.{◌≡◌, ℕ, suc, ◌+◌, ◌-◌, ◌*◌, ◌<◌, ◌≤◌, Bool, true, false, not, ◌&&◌, eqb, ltb, leb, ◌≢◌, List, [], ◌∷◌, ◌++◌, length, get_or, Ok, Err, sym, refl, ap, ◌∙◌, subst, inl, inr, arith}
+use Rattle.std.proofs.Common.{◌≡◌, ℕ, ◌+◌, ◌-◌, ◌<◌, ◌≤◌, Bool, true, not, ◌&&◌, eqb, leb, ◌≢◌, List, [], ◌∷◌, ◌++◌, length, get_or, sym, refl, ap, ◌∙◌, subst, inl, inr, arith}
 use mathlib.Core.Option.{some}
 use Rattle.std.proofs.lemmas.List.{length_push, get_or_push}
-use Rattle.std.proofs.lemmas.Bool.{le-ltb, le-leb, eq-eqb, and_parts, and_from, cond-true, cond-false, cases_Bool, cases_eq, false≢true}
+use Rattle.std.proofs.lemmas.Bool.{le-leb, eq-eqb, and_parts, and_from, cases_Bool, cases_eq, false≢true}
 use Rattle.raft_log.specs.Entries.{value_fits}
 use Rattle.raft.specs.declared.header.Role.{Role as Kind}
 use Rattle.raft.specs.declared.header.Role.TheVariants.{Follower, Candidate, Leader}
-use Rattle.raft.specs.declared.proposal.Refusal.TheVariants.{TooLong, Full}
 use Rattle.raft.specs.Header.{loaded}
-use Rattle.raft.specs.Proposal.{taken, propose_as, proposed}
 use Rattle.protocol.specs.Log.{entry, decisions}
 use Rattle.protocol.proofs.Decisions.{decisions_none, decisions_some, decisions-++}
 use Rattle.protocol.proofs.Lists.{begins_at}
@@ -19,31 +17,26 @@ use Rattle.machine.proofs.Alone.{own_proposed, alone_proposal}
 use Rattle.machine.proofs.Counts.{counts}
 use Rattle.machine.proofs.Steps.{runs_trans, decided_up}
 use Rattle.join_several.specs.Stands.{conf, RoleStands, Stands}
-use Rattle.together.specs.House.{pick, or, every, any, those, same, propose, Applied, Far, got_to, far_after, nth_value, by_order}
-use Rattle.together.specs.Promise.{last_since, are_bytes, said, Ran, runs, Machine, machine_at, set_machine, World, world, Flown, says, to_whom, event_for, before, thing_ran, rounds, enough_up, all_got, most_applied, proposing, Takes, Calm}
+use Rattle.together.specs.House.{or, every, any, same, propose, Applied, Far, got_to, far_after, nth_value, by_order}
+use Rattle.together.specs.Promise.{last_since, are_bytes, said, Ran, runs, Machine, machine_at, set_machine, World, world, Flown, says, to_whom, event_for, before, thing_ran, rounds, all_got, most_applied, proposing, Takes, Calm}
 use Rattle.together_several.specs.Entry.{own}
-use Rattle.whole_several.proofs.Mails.{no_way}
 use Rattle.whole_several.proofs.Joined.{Joined}
 use Rattle.whole_several.proofs.Moved.{Became, became_now}
+use Rattle.together.proofs.Lists.{or_left, or_right, any_later}
 use Rattle.whole.proofs.Orders.{nth_last}
 use Rattle.whole_several.proofs.Sent.{agrees_self}
-use Rattle.whole_several.proofs.Things.{enough, full_why, taken_became, taken_over}
+use Rattle.whole_several.proofs.Events.{enough}
+use Rattle.whole_several.proofs.Commands.{full_why, taken_became, taken_over}
 use Rattle.whole_several.proofs.Lone.{is_leader, Leads}
 use Rattle.whole_several.proofs.Worlds.{Good}
 use Rattle.whole_several.proofs.Rounds.{rests_since, decided_all, alone, Lives, rests, model_up, within_log, most_of_one, leader_since, order_within, waits}
+use Rattle.whole_several.proofs.Proposed.{leader_takes}
+use Rattle.whole.proofs.Orders.{up_alone, one_machine}
 
 -- WHAT WAS APPLIED LAST was applied as the order has it
 module _ (ps : List (List ℕ)) (o : List ℕ) (k : ℕ) (v : List ℕ) (is : nth_value ps (get_or o (k - 1) 0) ≡ v) where
   abbrev pub is_it : Applied → Bool
   is_it a = eqb a.index k && same a.value v
-
-  or_right : (b c : Bool) → c ≡ true → or b c ≡ true
-  or_right true c e = refl
-  or_right false c e = e
-
-  or_left : (b c : Bool) → b ≡ true → or b c ≡ true
-  or_left true c e = refl
-  or_left false c e = absurd (false≢true e)
 
   pub last_did : (f : Far) (as₁ : List Applied) → every (by_order ps o) as₁ ≡ true → last_since (far_after f as₁).since ≡ k → last_since f.since ≢ k → any is_it as₁ ≡ true
   unfolding every any far_after last_since
@@ -61,11 +54,6 @@ module _ (ps : List (List ℕ)) (o : List ℕ) (k : ℕ) (v : List ℕ) (is : nt
           let u : nth_value ps (get_or o (a.index - 1) 0) ≡ v = ap (λ (i : ℕ). nth_value ps (get_or o (i - 1) 0)) q ∙ is in
           and_from (eqb a.index k) (same a.value v) (eq-eqb a.index k q) (subst (λ (y : List ℕ). same a.value y ≡ true) u s)
 
-  pub any_later : (as₁ bs : List Applied) → any is_it bs ≡ true → any is_it (as₁ ++ bs) ≡ true
-  unfolding any
-  any_later [] bs e = e
-  any_later (a ∷ as₁) bs e = or_right (is_it a) (any is_it (as₁ ++ bs)) (any_later as₁ bs e)
-
 -- a memory that stands for a leader leads
 pub leads_memory : (n h : ℕ) (m : List ℕ) (x : Model ℕ) (g : ℕ → List ℕ) → Stands n h m (map_machine g x) → Leads x → (loaded m).role ≡ Leader
 leads_memory n h m x g s l = by (loaded m).role s.role
@@ -74,13 +62,6 @@ leads_memory n h m x g s l = by (loaded m).role s.role
     by (Follower e b) q = absurd (false≢true (ap is_leader (sym q.role ∙ l.role)))
     by (Candidate e) q = absurd (false≢true (ap is_leader (sym q.role ∙ l.role)))
     by Leader q = refl
-
--- a leader with room takes what is proposed
-takes_in : (m v : List ℕ) → length v ≤ 256 → (loaded m).role ≡ Leader → value_fits m (length v) ≡ true → proposed m v ≡ Ok (taken m (loaded m) v)
-unfolding proposed
-takes_in m v short l f =
-    cond-false (ltb 256 (length v)) (Err TooLong) (propose_as m (loaded m) (loaded m).role v) (le-ltb 256 (length v) short)
-    ∙ (ap (λ (t : Kind). propose_as m (loaded m) t v) l ∙ cond-true (value_fits m (length v)) (Ok (taken m (loaded m) v)) (Err Full) f)
 
 -- WHAT IS PROPOSED to a leader that is alone
 module _ (ps : List (List ℕ)) (fs : List Flown) (k : ℕ) (x : Machine) (ds : List Applied) (w : Theory) (z : Lives ps fs k x ds w) (low : k ≤ 8589934592) (leads : Leads (w.memory 0))
@@ -116,11 +97,11 @@ module _ (ps : List (List ℕ)) (fs : List Flown) (k : ℕ) (x : Machine) (ds : 
     became : Became 1 k 0 (ps ++ v ∷ []) x.how_it_got w args (proposal w.proposals)
     unfolding machine_at
     became =
-        taken_became 1 k (alone ps fs x w.order ds) w z.joined low 0 (omega arith) z.up v bytes role_now fits (takes_in x.memory v short role_now fits)
+        taken_became 1 k (alone ps fs x w.order ds) w z.joined low 0 (omega arith) z.up v bytes role_now fits (leader_takes x.memory v short role_now fits)
 
     over : args.end ≡ 0
     unfolding machine_at
-    over = taken_over 1 k (alone ps fs x w.order ds) w z.joined low 0 (omega arith) z.up v bytes role_now fits (takes_in x.memory v short role_now fits)
+    over = taken_over 1 k (alone ps fs x w.order ds) w z.joined low 0 (omega arith) z.up v bytes role_now fits (leader_takes x.memory v short role_now fits)
 
     -- the theory's machine then has it as its last value, and holds all for decided
     abbrev then : Theory
@@ -162,7 +143,7 @@ module _ (ps : List (List ℕ)) (fs : List Flown) (k : ℕ) (x : Machine) (ds : 
     -- so it was applied
     applied_it : any (λ a. eqb a.index (many + 1) && same a.value v) (ds ++ args.did) ≡ true
     applied_it =
-        any_later (ps ++ v ∷ []) then.order (many + 1) v order_has ds args.did
+        any_later (is_it (ps ++ v ∷ []) then.order (many + 1) v order_has) ds args.did
         (last_did (ps ++ v ∷ []) then.order (many + 1) v order_has x.how_it_got args.did became.moved.by far_on
         (λ e. omega (arith, leader_since ps fs k x ds w z leads)))
 
@@ -189,14 +170,6 @@ module _ (ps : List (List ℕ)) (fs : List Flown) (k : ℕ) (x : Machine) (ds : 
 
 -- CALM
 module _ (ps : List (List ℕ)) (fs : List Flown) where
-  is_up : (x : Machine) (o : List ℕ) (ds : List Applied) → enough_up (alone ps fs x o ds) ≡ true → x.up ≡ true
-  unfolding those
-  is_up x o ds e = go x.up e
-    where
-      go : (b : Bool) → ltb 1 (2 * length (pick b (x ∷ []) [])) ≡ true → b ≡ true
-      go true e = refl
-      go false e = e
-
   -- what any ever got to, a leader has applied since its start
   leader_got : (k : ℕ) (x : Machine) (ds : List Applied) (w : Theory) (o : List ℕ) (i : ℕ) → Lives ps fs k x ds w → Leads (w.memory 0) → i ≤ length w.order → all_got (alone ps fs x o ds) i ≡ true
   unfolding every
@@ -207,7 +180,7 @@ module _ (ps : List (List ℕ)) (fs : List Flown) where
   calm_lone : (k : ℕ) (x : Machine) (o : List ℕ) (ds : List Applied) (w : Theory) → k ≤ 4294967296 → Joined 1 k (alone ps fs x o ds) w → Calm own (alone ps fs x o ds)
   unfolding Calm
   calm_lone k x o ds w low j e =
-      let u = is_up x o ds e in
+      let u = up_alone x fs ps o ds e in
       let z : Lives ps fs k x ds w = record { joined = subst (λ (p : List ℕ). Joined 1 k (alone ps fs x p ds) w) j.order j; up = u } in
       let t = waits ps fs 10 k x ds w o (omega arith) z (inr (omega arith)) in (
         enough,
@@ -217,12 +190,8 @@ module _ (ps : List (List ℕ)) (fs : List Flown) where
         λ room. subst (λ (v : World). Takes own enough v) (sym t.is) (takes ps fs (k + 10) t.x₁ t.ds₁ t.w₁ t.lives (omega arith) t.leads room o),
       )
 
-calm_world : (k : ℕ) (ms : List Machine) (fs : List Flown) (ps : List (List ℕ)) (o : List ℕ) (ds : List Applied) (w : Theory) → k ≤ 4294967296 → Joined 1 k (world ms fs ps o ds) w →
-    Calm own (world ms fs ps o ds)
-calm_world k [] fs ps o ds w low j = no_way j.number
-calm_world k (x ∷ []) fs ps o ds w low j = calm_lone ps fs k x o ds w low j
-calm_world k (x ∷ y ∷ ms) fs ps o ds w low j = absurd (let e : suc (suc (length ms)) ≡ 1 = j.number in omega arith)
-
 -- one machine alone goes on in calm
 pub calm_alone : (k : ℕ) (v : World) → k ≤ 4294967296 → Good 1 k v → Calm own v
-calm_alone k v low g = calm_world k v.machines v.wire v.proposed v.order v.all_did g.0 low g.1
+calm_alone k v low g =
+    one_machine (λ ms. Joined 1 k (world ms v.wire v.proposed v.order v.all_did) g.0 → Calm own (world ms v.wire v.proposed v.order v.all_did)) v.machines g.1.number
+    (λ x. calm_lone v.proposed v.wire k x v.order v.all_did g.0 low) g.1

@@ -1,19 +1,17 @@
 -- Memory never grows, nor do its numbers beyond 64 bits, whatever the event.
-use Rattle.std.proofs.Common.{◌≡◌, ℕ, zero, suc, ◌+◌, ◌-◌, ◌<◌, ◌≤◌, max, Bool, true, false, cond, not, ◌&&◌, ◌||◌, eqb, ltb, leb, List, [], ◌∷◌, length, drop, set, Some, None, Ok, Err, Option, Result, refl, ◌∙◌, arith, lit≤}
+use Rattle.std.proofs.Common.{◌≡◌, ℕ, zero, suc, ◌+◌, ◌-◌, ◌<◌, ◌≤◌, Bool, true, false, cond, not, ◌&&◌, ◌||◌, eqb, ltb, leb, List, length, set, Ok, Err, Result, refl, arith, lit≤}
 use mathlib.Core.Option.{Option as Maybe, none, some}
-use Rattle.std.proofs.lemmas.List.{length-set}
 use Rattle.std.proofs.lemmas.Bool.{ltb-true, leb-true, and_parts, cond_both}
-use Rattle.raft_log.specs.declared.Index.{Index}
-use Rattle.raft_log.specs.Layout.{memory_words, at_most, entry_row, value_row}
-use Rattle.raft_log.specs.Values.{word_of, words_put, words_for, value_put}
-use Rattle.raft_log.specs.Entries.{last_index, commit_index, applied_number, values, entry_put, entry_pushed, value_fits, value_appended, empty_place, empty_fits, empty_appended, commit_rises, commit_raised, applied_set, term_at, index}
-use Rattle.raft_log.specs.Block.{Entry, ContentFits, EntriesFit}
+use Rattle.raft_log.specs.Layout.{at_most}
+use Rattle.raft_log.specs.Entries.{last_index, commit_index, applied_number, values, value_fits, value_appended, empty_place, empty_fits, empty_appended, commit_raised, applied_set, term_at}
+use Rattle.raft_log.specs.Block.{Entry, EntriesFit}
 use Rattle.raft_log.specs.View.{log_of, term_before}
-use Rattle.raft_log.specs.Conflict.{has_term, conflict, conflict_by_term, is_up_to_date}
-use Rattle.raft_log.specs.Accept.{truncated, content_taken, entry_taken, entries_taken, merged_at, merged, merges, commit_noted, accepts, accepted, hint}
+use Rattle.raft_log.specs.Conflict.{has_term, is_up_to_date}
+use Rattle.raft_log.specs.Accept.{merges, accepts, accepted, hint}
 use Rattle.raft_log.proofs.ValueLaws.{at_most_le}
-use Rattle.raft_log.proofs.LogLaws.{last_most, commit_most, applied_most, number_most}
+use Rattle.raft_log.proofs.LogLaws.{last_most, applied_most}
 use Rattle.raft_log.proofs.ViewLaws.{length_log}
+use Rattle.raft_log.proofs.MergeLaws.{by_term_most}
 use Rattle.messages.specs.Letter.{Letter, append, append_response, append_reject, request_vote, request_vote_response, term_notice, letter_of, LetterFits}
 use Rattle.messages.proofs.OneToOne.{one_to_one}
 use Rattle.raft.specs.declared.header.Ticks.{Ticks}
@@ -23,24 +21,29 @@ use Rattle.raft.specs.declared.header.Machine.{Machine}
 use Rattle.raft.specs.declared.say.Due.{Due}
 use Rattle.raft.specs.declared.say.Due.TheVariants.{Append, RequestVote, TellTerm, Grant, Deny, Accept, Reject}
 use Rattle.raft.specs.declared.proposal.Refusal.{Refusal}
-use Rattle.raft.specs.declared.proposal.Refusal.TheVariants.{TooLong, Full}
 use Rattle.raft.specs.Header.{at_least, ticks, elapsed_word, loaded, stored}
 use Rattle.raft.specs.Rows.{row_put, row_set, only, others, matched_at, next_at, most_of}
 use Rattle.raft.specs.Say.{due_word, said_to_others, said_to, answered}
 use Rattle.raft.specs.Commit.{quorum_index, maybe_committed}
 use Rattle.raft.specs.Power.{belongs, restarted, powered}
 use Rattle.raft.specs.Header.{with_role, in_term, older}
+use Rattle.raft.proofs.HeaderLaws.{older_most}
 use Rattle.raft.specs.Election.{owner, rows_begun, led_with_room, led, stood, campaigned, told, followed, term_entered, next_term_entered, reminded, waited, asked_again, tick_as, ticked, wins_now, vote_taken, vote_due}
 use Rattle.raft.specs.Progress.{after, matched_then, next_then, matched_raised, spread, ack_taken, next_below, rejects_next, reject_taken}
-use Rattle.raft.specs.Proposal.{with_unsettled, taken, propose_as, proposed}
+use Rattle.raft.specs.Proposal.{with_unsettled, taken, proposed}
 use Rattle.raft.specs.Receive.{letter_term, heard_from, log_changes, append_taken, append_as, request_as, vote_as, response_as, reject_as, handle_with, handled, old_taken, taken_by_term, another, received_from_another}
-use Rattle.together.specs.House.{every, propose, how_far}
+use Rattle.together.specs.House.{propose, how_far}
 use Rattle.together.specs.Promise.{Steady, all_small, are_bytes, Event, on, said, came, tick, next}
-use Rattle.together.specs.Machine.{zeros, start}
 use Rattle.together_several.specs.Machine.{after_proposal, letter_come, own_step}
 use Rattle.together_several.specs.Entry.{own}
 use Rattle.together.proofs.Lengths.{length_start}
-use Rattle.whole_several.proofs.Smalls.{limit, Kept, kept, then_kept, kept_set, small_word, Small, kept_stored, kept_over, loaded_small, kept_applied, kept_go_on, bytes_from}
+use Rattle.together.proofs.Lists.{bytes_from}
+use Rattle.together.proofs.Starts.{start_zero}
+use Rattle.together.proofs.Smalls.{limit, Kept, kept, then_kept, small_word, in_term_small, with_role_small, unsettled_small}
+use Rattle.together.proofs.KeptLogs.{accepted_kept, place_most, set_kept, appended_kept, emptied_kept, raised_kept, applied_kept}
+use Rattle.whole_several.proofs.Smalls.{Small, kept_stored, kept_over, loaded_small, kept_go_on}
+use Rattle.whole.proofs.Asked.{KeptProposed, kept_asked}
+use Rattle.whole_several.proofs.Proposed.{asked}
 
 due_small : (d : Due) → due_word d < limit
 due_small Append = omega arith
@@ -51,36 +54,11 @@ due_small Deny = omega arith
 due_small Accept = omega arith
 due_small Reject = omega arith
 
-word_small : (v : List ℕ) (j : ℕ) → word_of v j < limit
-word_small v j = omega arith
-
 at_least_small : (a c : ℕ) → a < limit → c < limit → at_least a c < limit
 at_least_small a c p q = cond_both (ltb c a) a c (λ x. x < limit) (λ _. p) (λ _. q)
 
 after_small : (k : ℕ) → k < limit → after k < limit
 after_small k l = cond_both (ltb k 18446744073709551615) (k + 1) k (λ x. x < limit) (λ e. omega (arith, ltb-true k 18446744073709551615 e)) (λ _. l)
-
-fit_drop : (n : ℕ) (es : List Entry) → EntriesFit es → EntriesFit (drop n es)
-fit_drop zero es f = f
-fit_drop (suc n) [] f = f
-fit_drop (suc n) (e ∷ es) f = fit_drop n es f.2
-
--- where logs part is among the entries that are compared
-abbrev AtMostIndex : Option Index → ℕ → Type 0
-AtMostIndex None n = Unit {0}
-AtMostIndex (Some c) n = c.0 ≤ n
-
-conflict_most : (l : List Entry) (p : ℕ) (es : List Entry) (n : ℕ) → p + length es ≤ n → AtMostIndex (conflict l p es) n
-unfolding conflict
-conflict_most l p [] n h = tt
-conflict_most l p (e ∷ es) n h =
-    cond_both (has_term l (suc p) e.term) (conflict l (suc p) es) (Some (index (suc p))) (λ o. AtMostIndex o n) (λ _. conflict_most l (suc p) es n (omega arith)) (λ _. omega arith)
-
-hint_most : (l : List Entry) (t i : ℕ) → conflict_by_term l t i ≤ i
-unfolding conflict_by_term
-hint_most l t zero = omega arith
-hint_most l t (suc i) =
-    cond_both (leb (term_before l (suc i)) t) (suc i) (conflict_by_term l t i) (λ n. n ≤ suc i) (λ _. omega arith) (λ _. omega (arith, hint_most l t i))
 
 term_fits : (l : Letter) → LetterFits l → letter_term l < limit
 term_fits (append t p q k es) f = f.0
@@ -95,9 +73,6 @@ module _ (b : List ℕ) where
   abbrev IfSmall : Type 0 → Type 0
   IfSmall P = all_small b ≡ true → P
 
-  set_kept : (m : List ℕ) (i x : ℕ) → Kept b m → IfSmall (x < limit) → Kept b (set m i x)
-  set_kept m i x k l = record { long = length-set m i x ∙ k.long; small = λ h. (kept_set m i x (λ _. l h)).small (k.small h) }
-
   stored_kept : (m : List ℕ) (x : Machine Role) → Kept b m → IfSmall (Small x) → Kept b (stored m x)
   stored_kept m x k s = kept_over b m x k s
 
@@ -108,7 +83,7 @@ module _ (b : List ℕ) where
   row_kept : (m : List ℕ) (base : ℕ) (f : ℕ → ℕ) (n : ℕ) → Kept b m → ((j : ℕ) → f j < limit) → Kept b (row_put m base f n)
   unfolding row_put
   row_kept m base f zero k l = k
-  row_kept m base f (suc n) k l = set_kept (row_put m base f n) (base + n) (f n) (row_kept m base f n k l) (λ _. l n)
+  row_kept m base f (suc n) k l = set_kept b (row_put m base f n) (base + n) (f n) (row_kept m base f n k l) (λ _. l n)
 
   only_small : (i v j : ℕ) → v < limit → only i v j < limit
   only_small i v j l = cond_both (eqb j i) v 0 (λ x. x < limit) (λ _. l) (λ _. omega arith)
@@ -126,53 +101,20 @@ module _ (b : List ℕ) where
 
   answered_kept : (m : List ℕ) (i : ℕ) (d : Due) (p q : ℕ) → Kept b m → IfSmall (p < limit) → IfSmall (q < limit) → Kept b (answered m i d p q)
   unfolding answered
-  answered_kept m i d p q k lp lq = set_kept (set (said_to m i d) 36 p) 37 q (set_kept (said_to m i d) 36 p (said_kept m i d k) lp) lq
-
-  -- the log
-  words_kept : (m : List ℕ) (base : ℕ) (v : List ℕ) (n : ℕ) → Kept b m → Kept b (words_put m base v n)
-  unfolding words_put
-  words_kept m base v zero k = k
-  words_kept m base v (suc n) k = set_kept (words_put m base v n) (base + n) (word_of v n) (words_kept m base v n k) (λ _. word_small v n)
-
-  value_kept : (m : List ℕ) (i : ℕ) (v : List ℕ) → Kept b m → length v ≤ 256 → Kept b (value_put m i v)
-  unfolding value_put
-  value_kept m i v k l =
-      words_kept (set m (value_row i) (length v)) (value_row i + 1) v (words_for (length v)) (set_kept m (value_row i) (length v) k (λ _. omega arith))
-
-  pushed_kept : (m : List ℕ) (i t n : ℕ) → Kept b m → IfSmall (t < limit) → i ≤ 8194 → n ≤ 4097 → Kept b (entry_pushed m i t n)
-  pushed_kept m i t n k l p q =
-      set_kept (entry_put m i t n) 64 i (set_kept (set m (entry_row i) t) (entry_row i + 1) n (set_kept m (entry_row i) t k l) (λ _. omega arith)) (λ _. omega arith)
-
-  appended_kept : (m : List ℕ) (t : ℕ) (v : List ℕ) → Kept b m → IfSmall (t < limit) → length v ≤ 256 → Kept b (value_appended m t v)
-  unfolding value_appended
-  appended_kept m t v k l s =
-      pushed_kept (value_put m (values m) v) (last_index m + 1) t (values m + 1) (value_kept m (values m) v k s) l (omega (arith, last_most m)) (omega (arith, number_most m (last_index m)))
-
-  place_most : (m : List ℕ) → empty_fits m ≡ true → empty_place m ≤ 8193
-  place_most m f = leb-true (empty_place m) 8193 f
-
-  emptied_kept : (m : List ℕ) (t : ℕ) → Kept b m → IfSmall (t < limit) → empty_fits m ≡ true → Kept b (empty_appended m t)
-  unfolding empty_appended
-  emptied_kept m t k l f = pushed_kept m (empty_place m) t (values m) k l (omega (arith, place_most m f)) (omega (arith, number_most m (last_index m)))
-
-  raised_kept : (m : List ℕ) (i : ℕ) → Kept b m → Kept b (commit_raised m i)
-  unfolding commit_raised
-  raised_kept m i k =
-      cond_both (commit_rises m i) (set m 65 i) m (λ x. Kept b x)
-      (λ e. set_kept m 65 i k (λ _. omega (arith, last_most m, leb-true i (last_index m) (and_parts (ltb (commit_index m) i) (leb i (last_index m)) e).1))) (λ _. k)
+  answered_kept m i d p q k lp lq = set_kept b (set (said_to m i d) 36 p) 37 q (set_kept b (said_to m i d) 36 p (said_kept m i d k) lp) lq
 
   committed_kept : (m : List ℕ) (n t : ℕ) → Kept b m → Kept b (maybe_committed m n t)
   unfolding maybe_committed
   committed_kept m n t k =
-      cond_both (eqb (term_at m (quorum_index m n)) t) (commit_raised m (quorum_index m n)) m (λ x. Kept b x) (λ _. raised_kept m (quorum_index m n) k) (λ _. k)
+      cond_both (eqb (term_at m (quorum_index m n)) t) (commit_raised m (quorum_index m n)) m (λ x. Kept b x) (λ _. raised_kept b m (quorum_index m n) k) (λ _. k)
 
   -- ELECTIONS: x is a struct whose numbers are small
   module _ (x : Machine Role) (small : IfSmall (Small x)) where
     small_in : (t : ℕ) (r : Role) → IfSmall (t < limit) → elapsed_word r ≤ 10 → IfSmall (Small (in_term x t r))
-    small_in t r l w h = record { size = (small h).size; id = (small h).id; term = l h; since = (small h).since; waits = w }
+    small_in t r l w h = in_term_small elapsed_word x (small h) t r (l h) w
 
     small_role : (r : Role) → elapsed_word r ≤ 10 → IfSmall (Small (with_role x r))
-    small_role r w h = record { size = (small h).size; id = (small h).id; term = (small h).term; since = (small h).since; waits = w }
+    small_role r w h = with_role_small elapsed_word x (small h) r w
 
     begun_kept : (m : List ℕ) (id i : ℕ) → Kept b m → i ≤ 8193 → Kept b (rows_begun m id i)
     unfolding rows_begun
@@ -184,7 +126,7 @@ module _ (b : List ℕ) where
       unfolding led_with_room
       led_room_kept f =
           let m₁ : List ℕ = rows_begun (empty_appended m t) x.id.0 (empty_place m) in
-          let k₁ : Kept b m₁ = begun_kept (empty_appended m t) x.id.0 (empty_place m) (emptied_kept m t k l f) (place_most m f) in
+          let k₁ : Kept b m₁ = begun_kept (empty_appended m t) x.id.0 (empty_place m) (emptied_kept b m t k l f) (place_most m f) in
           said_others_kept (stored (maybe_committed m₁ x.size.0 t) (in_term x t Leader)) x Append
           (stored_kept (maybe_committed m₁ x.size.0 t) (in_term x t Leader) (committed_kept m₁ x.size.0 t k₁) (small_in t Leader l (omega arith)))
 
@@ -224,9 +166,6 @@ module _ (b : List ℕ) where
           cond_both (ltb x.term.0 18446744073709551615) (term_entered m x (x.term.0 + 1) true) m (λ y. Kept b y)
           (λ e. entered_kept m (x.term.0 + 1) k (λ _. omega (arith, ltb-true x.term.0 18446744073709551615 e)) true) (λ _. k)
 
-      older_most : (e : Ticks) → (older e).0 ≤ 10
-      older_most e = cond_both (ltb e.0 10) (ticks (e.0 + 1)) (ticks 10) (λ y. y.0 ≤ 10) (λ h. omega (arith, ltb-true e.0 10 h)) (λ _. omega arith)
-
       reminded_kept : (m₁ : List ℕ) (heard : Bool) → Kept b m₁ → Kept b (reminded m₁ x heard)
       unfolding reminded
       reminded_kept m₁ heard k₁ =
@@ -251,7 +190,7 @@ module _ (b : List ℕ) where
       vote_kept : (e : Ticks) (f : ℕ) → Kept b (vote_taken m x e f)
       unfolding vote_taken
       vote_kept e f =
-          let k₁ : Kept b (set m (8 + f) 1) = set_kept m (8 + f) 1 k (λ _. omega arith) in
+          let k₁ : Kept b (set m (8 + f) 1) = set_kept b m (8 + f) 1 k (λ _. omega arith) in
           cond_both (wins_now (set m (8 + f) 1) x e) (led (set m (8 + f) 1) x x.term.0) (set m (8 + f) 1) (λ y. Kept b y)
           (λ _. led_kept (set m (8 + f) 1) x.term.0 k₁ (λ h. (small h).term)) (λ _. k₁)
 
@@ -260,7 +199,7 @@ module _ (b : List ℕ) where
       unfolding matched_raised
       matched_kept f i l =
           let a : IfSmall (matched_then m f i < limit) = λ h. at_least_small i (matched_at m f) (omega arith) (small_word m (15 + f) (k.small h)) in
-          set_kept (set m (15 + f) (matched_then m f i)) (22 + f) (next_then m f i) (set_kept m (15 + f) (matched_then m f i) k a)
+          set_kept b (set m (15 + f) (matched_then m f i)) (22 + f) (next_then m f i) (set_kept b m (15 + f) (matched_then m f i) k a)
           (λ h. at_least_small (after (matched_then m f i)) (next_at m f) (after_small (matched_then m f i) (a h)) (small_word m (22 + f) (k.small h)))
 
       spread_kept : (m₁ : List ℕ) (f c : ℕ) → Kept b m₁ → Kept b (spread m₁ x f c)
@@ -281,7 +220,7 @@ module _ (b : List ℕ) where
       unfolding reject_taken
       reject_kept f p h l =
           cond_both (rejects_next m f p) (said_to (set m (22 + f) (next_below m f p h)) f Append) m (λ y. Kept b y)
-          (λ e. said_kept (set m (22 + f) (next_below m f p h)) f Append (set_kept m (22 + f) (next_below m f p h) k (λ _. below e))) (λ _. k)
+          (λ e. said_kept (set m (22 + f) (next_below m f p h)) f Append (set_kept b m (22 + f) (next_below m f p h) k (λ _. below e))) (λ _. k)
         where
           below : rejects_next m f p ≡ true → next_below m f p h < limit
           below e =
@@ -296,35 +235,11 @@ module _ (b : List ℕ) where
           let short : length v ≤ 256 = leb-true (length v) 256 (and_parts (leb (length v) 256) (ltb (last_index m) 8193 && ltb (values m) 4096) f).0 in
           let m₁ : List ℕ = value_appended m x.term.0 v in
           let m₂ : List ℕ = set m₁ (15 + x.id.0) (last_index m + 1) in
-          let k₁ : Kept b m₁ = appended_kept m x.term.0 v k (λ h. (small h).term) short in
-          let k₂ : Kept b m₂ = set_kept m₁ (15 + x.id.0) (last_index m + 1) k₁ (λ _. omega (arith, last_most m)) in
+          let k₁ : Kept b m₁ = appended_kept b m x.term.0 v k (λ h. (small h).term) short in
+          let k₂ : Kept b m₂ = set_kept b m₁ (15 + x.id.0) (last_index m + 1) k₁ (λ _. omega (arith, last_most m)) in
           said_others_kept _ x Append
           (stored_kept (maybe_committed m₂ x.size.0 x.term.0) (with_unsettled x) (committed_kept m₂ x.size.0 x.term.0 k₂)
-          (λ h. record { size = (small h).size; id = (small h).id; term = (small h).term; since = (small h).since; waits = (small h).waits }))
-
-  -- AN APPEND
-  entry_kept : (m : List ℕ) (t : ℕ) (o : Maybe (List ℕ)) → Kept b m → t < limit → ContentFits o → Kept b (content_taken m t o)
-  entry_kept m t none k l f = pushed_kept m (last_index m + 1) t (values m) k (λ _. l) (omega (arith, last_most m)) (omega (arith, number_most m (last_index m)))
-  entry_kept m t (some v) k l f = appended_kept m t v k (λ _. l) f.0
-
-  entries_kept : (m : List ℕ) (es : List Entry) → Kept b m → EntriesFit es → Kept b (entries_taken m es)
-  unfolding entries_taken entry_taken
-  entries_kept m [] k f = k
-  entries_kept m (e ∷ es) k f = entries_kept (entry_taken m e) es (entry_kept m e.term e.content k f.0 f.1) f.2
-
-  merged_at_kept : (m : List ℕ) (p : ℕ) (es : List Entry) (o : Option Index) → Kept b m → EntriesFit es → AtMostIndex o 8208 → Kept b (merged_at m p es o)
-  unfolding truncated
-  merged_at_kept m p es None k f l = k
-  merged_at_kept m p es (Some c) k f l =
-      entries_kept (truncated m (c.0 - 1)) (drop (c.0 - 1 - p) es) (set_kept m 64 (c.0 - 1) k (λ _. omega arith)) (fit_drop (c.0 - 1 - p) es f)
-
-  accepted_kept : (m : List ℕ) (p c : ℕ) (es : List Entry) → Kept b m → p ≤ 8193 → length es ≤ 15 → EntriesFit es → Kept b (accepted m p c es)
-  unfolding accepted commit_noted merged
-  accepted_kept m p c es k l few f =
-      let m₁ : List ℕ = merged m p es in
-      set_kept m₁ 65 (max (commit_index m₁) (at_most c (p + length es)))
-      (merged_at_kept m p es (conflict (log_of m) p es) k f (conflict_most (log_of m) p es 8208 (omega arith)))
-      (λ _. omega (arith, commit_most m₁, last_most m₁, at_most_le c (p + length es)))
+          (λ h. unsettled_small elapsed_word x (small h)))
 
   -- A LETTER whose numbers are words
   module _ (m : List ℕ) (x : Machine Role) (k : Kept b m) (small : IfSmall (Small x)) where
@@ -339,7 +254,7 @@ module _ (b : List ℕ) where
         (λ e.
         let low : p ≤ 8193 = near e in
         answered_kept (stored (accepted m p c es) (heard_from x (log_changes m p es))) f Accept (p + length es) 0
-        (stored_kept (accepted m p c es) (heard_from x (log_changes m p es)) (accepted_kept m p c es k low few fit) (small_heard (log_changes m p es))) (λ _. omega arith) (λ _. omega arith))
+        (stored_kept (accepted m p c es) (heard_from x (log_changes m p es)) (accepted_kept b m p c es k low few fit) (small_heard (log_changes m p es))) (λ _. omega arith) (λ _. omega arith))
         (λ _. answered_kept (stored m (heard_from x false)) f Reject p (hint (log_of m) p q) (stored_kept m (heard_from x false) k (small_heard false)) (λ _. l) (λ _. hinted))
       where
         near : accepts m p q es ≡ true → p ≤ 8193
@@ -348,7 +263,7 @@ module _ (b : List ℕ) where
             omega (arith, leb-true p (length (log_of m)) (and_parts (leb p (length (log_of m))) (eqb (term_before (log_of m) p) q) t).0, length_log m, last_most m)
 
         hinted : hint (log_of m) p q < limit
-        hinted = omega (arith, hint_most (log_of m) q (at_most (p - 1) (length (log_of m))), at_most_le (p - 1) (length (log_of m)), length_log m, last_most m)
+        hinted = omega (arith, by_term_most (log_of m) q (at_most (p - 1) (length (log_of m))), at_most_le (p - 1) (length (log_of m)), length_log m, last_most m)
 
     append_as_kept : (r : Role) (f p q c : ℕ) (es : List Entry) → p < limit → length es ≤ 15 → EntriesFit es → Kept b (append_as m x r f p q c es)
     append_as_kept (Follower e heard) f p q c es l few fit = append_kept f p q c es l few fit
@@ -412,8 +327,9 @@ kept_powered m i n =
     let low : n ≤ 7 = leb-true n 7 b.0 in
     let at : i < n = ltb-true i n b.1 in
     row_kept m (applied_set (stored m (restarted (loaded m) i n (Follower (ticks 0) false))) (applied_number m - 1)) 29 (λ _. 0) 7
-    (then_kept (kept_stored m (restarted (loaded m) i n (Follower (ticks 0) false)) (λ h. record { size = omega arith; id = omega arith; term = (loaded_small m h).term; since = omega arith; waits = omega arith }))
-    (kept_applied _ (applied_number m - 1) (omega (arith, applied_most m))))
+    (applied_kept m _ (applied_number m - 1)
+    (kept_stored m (restarted (loaded m) i n (Follower (ticks 0) false)) (λ h. record { size = omega arith; id = omega arith; term = (loaded_small m h).term; since = omega arith; waits = omega arith }))
+    (omega (arith, applied_most m)))
     (λ j. omega arith))
     (λ _. kept m)
 
@@ -429,21 +345,8 @@ unfolding received_from_another
 kept_received m f l g =
     cond_both (another (loaded m) f) (taken_by_term m (loaded m) f l) m (λ y. Kept m y) (λ _. by_term_kept m m (loaded m) f l (kept m) (loaded_small m) g) (λ _. kept m)
 
--- memory after a proposal that was taken
-abbrev pub KeptProposed : List ℕ → Result (List ℕ) Refusal → Type 0
-KeptProposed m (Ok m₁) = Kept m m₁
-KeptProposed m (Err why) = Unit {0}
-
-kept_as : (m v : List ℕ) (r : Role) → KeptProposed m (propose_as m (loaded m) r v)
-kept_as m v (Follower e heard) = tt
-kept_as m v (Candidate e) = tt
-kept_as m v Leader =
-    cond_both (value_fits m (length v)) (Ok (taken m (loaded m) v)) (Err Full) (λ p. KeptProposed m p) (λ f. kept_taken m v f) (λ _. tt)
-
 pub kept_proposed : (m v : List ℕ) → KeptProposed m (proposed m v)
-unfolding proposed
-kept_proposed m v =
-    cond_both (ltb 256 (length v)) (Err TooLong) (propose_as m (loaded m) (loaded m).role v) (λ p. KeptProposed m p) (λ _. tt) (λ _. kept_as m v (loaded m).role)
+kept_proposed m v = kept_asked (λ f. kept_taken m v f) (asked m v)
 
 kept_after : (m : List ℕ) (p : Result (List ℕ) Refusal) → KeptProposed m p → Kept m (after_proposal m p).memory
 kept_after m (Ok m₁) k = then_kept k (kept_go_on m₁)
@@ -469,26 +372,7 @@ kept_step m (came f bs) = then_kept (kept_came m f bs) (kept_go_on (received_fro
 kept_step m tick = then_kept (kept_ticked m) (kept_go_on (ticked m))
 kept_step m next = kept_go_on m
 
-zeros_zero : (n : ℕ) → every (λ m. eqb m 0) (zeros n) ≡ true
-unfolding zeros every
-zeros_zero zero = refl
-zeros_zero (suc n) = zeros_zero n
-
-start_zero : every (λ m. eqb m 0) start ≡ true
-unfolding start
-start_zero = zeros_zero memory_words
-
 -- MEMORY IS STEADY
 pub steady : Steady own
 unfolding Steady own
 steady = (rw length_start (lit≤ tt), start_zero, λ m ev. ((kept_step m ev).long, (kept_step m ev).small))
-
-small_zeros : (n : ℕ) → all_small (zeros n) ≡ true
-unfolding zeros every all_small
-small_zeros zero = refl
-small_zeros (suc n) = small_zeros n
-
--- the first memory is small too
-pub small_start : all_small start ≡ true
-unfolding start
-small_start = small_zeros memory_words

@@ -8,7 +8,11 @@ use Rattle.together_several.specs.Entry.{own}
 use Rattle.whole.proofs.Kept.{WholeKept, CutKept}
 use Rattle.whole_several.proofs.Joined.{Joined}
 use Rattle.whole_several.proofs.Moved.{moved_right, moved_joined}
-use Rattle.whole_several.proofs.Things.{enough, RightThing, tick_right, how_far_right, propose_right, letter_right, power_right}
+use Rattle.whole_several.proofs.Events.{enough, RightThing, tick_right}
+use Rattle.whole_several.proofs.Commands.{how_far_right, propose_right}
+use Rattle.whole_several.proofs.Letters.{letter_right}
+use Rattle.whole_several.proofs.Powers.{power_right}
+use Rattle.whole.proofs.Orders.{machine_here}
 
 -- THE INVARIANT: the world is joined with a world of the theory
 abbrev pub Good : ℕ → ℕ → World → Type 0
@@ -16,9 +20,7 @@ Good n k v = (w : Theory) × Joined n k v w
 
 module _ (n k : ℕ) (v : World) (w : Theory) (j : Joined n k v w) (low : k ≤ 8589934592) where
   here : (h : ℕ) (u : Bool) → (ltb h (length v.machines) && u) ≡ true → (h < n) × (u ≡ true)
-  here h u p =
-      let q = and_parts (ltb h (length v.machines)) u p in
-      (omega (arith, ltb-true h (length v.machines) q.0, j.number), q.1)
+  here h u p = machine_here v.machines n h u j.number p
 
   pub thing_right : (t : Thing) → proper v t ≡ true → RightThing n k v w t
   unfolding proper small_command
