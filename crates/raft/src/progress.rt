@@ -44,7 +44,7 @@ fn spread(memory: &mut Memory, machine: Machine<Role>, from: Peer, commit: Index
 /// A machine has acknowledged the log up to an index.
 #[tactic(auto, unfolding(crate::specs::Progress::ack_taken))]
 pub(crate) fn take_ack(memory: &mut Memory, machine: Machine<Role>, from: Peer, index: Index)
-    requires { ((1 ≤ machine.size.0) × (machine.size.0 ≤ 7)) }
+    requires { (1 ≤ machine.size.0) × (machine.size.0 ≤ 7) }
     ensures { memory.new ≡ ack_taken memory.old machine from.id.0 index.0 }
 {
     if index <= last_index(memory) {
@@ -63,7 +63,7 @@ fn rejects_next(memory: &Memory, from: Peer, rejected: Index) -> bool
 }
 
 fn next_below(memory: &Memory, from: Peer, rejected: Index, hint: Index) -> u64
-    requires { (matched_at memory.now from.id.0 < rejected.0) }
+    requires { matched_at memory.now from.id.0 < rejected.0 }
     ensures { result ≡ next_below memory.now from.id.0 rejected.0 hint.0 }
 {
     let least = matched(memory, from).0 + 1;
