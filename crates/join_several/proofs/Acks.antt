@@ -19,7 +19,7 @@ use Rattle.raft.specs.Progress.{after, matched_then, next_then, matched_raised, 
 use Rattle.raft.proofs.HeaderLaws.{loaded_alike}
 use Rattle.protocol.specs.Lists.{pick, upd}
 use Rattle.protocol.specs.Log.{Log, term_before}
-use Rattle.protocol.proofs.Updates.{pick_both, upd_at, upd_same, upd_other}
+use Rattle.protocol.proofs.Updates.{pick_both, upd_same}
 use Rattle.machine.specs.Machine.{Conf, Machine, machine, Role, follower, candidate, leader, Letter, out, Outcome, outcome}
 use Rattle.machine.specs.Step.{broadcast, append_at, majority_index, maybe_commit, leading, matched, next_after, handle_ack, next_below, handle_reject}
 use Rattle.join_several.specs.Stands.{conf, lift_log, Leads, RoleStands, Stands}

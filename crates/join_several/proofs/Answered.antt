@@ -1,6 +1,5 @@
 -- A letter that is due, and the numbers of an answer, leave the struct and what was applied.
-use Rattle.std.proofs.Common.{◌≡◌, ℕ, ◌<◌, ◌≤◌, ◌≢◌, List, get_or, set, ◌∙◌, arith}
-use Rattle.std.proofs.lemmas.List.{get_or-set_other}
+use Rattle.std.proofs.Common.{◌≡◌, ℕ, ◌<◌, ◌≤◌, List, get_or, ◌∙◌, arith}
 use Rattle.raft_log.specs.Entries.{applied_number}
 use Rattle.raft_log.proofs.LogLaws.{same_applied}
 use Rattle.raft.specs.declared.header.Role.{Role}
@@ -9,7 +8,7 @@ use Rattle.raft.specs.declared.say.Due.{Due}
 use Rattle.raft.specs.Header.{loaded, stored}
 use Rattle.raft.specs.Say.{said_to, answered}
 use Rattle.raft.proofs.HeaderLaws.{stored_other, loaded_alike}
-use Rattle.join_several.proofs.Frames.{due_row_before, due_row_behind}
+use Rattle.join_several.proofs.Frames.{answered_other, due_row_before, due_row_behind}
 
 pub said_before : (m : List ℕ) (j : ℕ) (d : Due) (i : ℕ) → i < 29 → get_or (said_to m j d) i 0 ≡ get_or m i 0
 unfolding said_to
@@ -24,10 +23,6 @@ said_loaded m j d = loaded_alike m (said_to m j d) (λ i l. said_before m j d i 
 
 pub said_applied : (m : List ℕ) (j : ℕ) (d : Due) → applied_number (said_to m j d) ≡ applied_number m
 said_applied m j d = same_applied m (said_to m j d) (said_behind m j d 66 (omega arith))
-
-answered_other : (m : List ℕ) (j : ℕ) (d : Due) (a b i : ℕ) → i ≢ 36 → i ≢ 37 → get_or (answered m j d a b) i 0 ≡ get_or (said_to m j d) i 0
-unfolding answered
-answered_other m j d a b i p q = get_or-set_other (set (said_to m j d) 36 a) 37 i b 0 q ∙ get_or-set_other (said_to m j d) 36 i a 0 p
 
 pub answered_loaded : (m : List ℕ) (j : ℕ) (d : Due) (a b : ℕ) → loaded (answered m j d a b) ≡ loaded m
 answered_loaded m j d a b =

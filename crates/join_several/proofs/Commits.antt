@@ -6,7 +6,6 @@ use Rattle.std.proofs.lemmas.Bool.{cond-false, cond_both, cases_Bool, cases_lt, 
 use Rattle.raft_log.specs.Layout.{memory_words}
 use Rattle.raft_log.specs.View.{log_of, Tidy}
 use Rattle.raft_log.specs.Entries.{last_index, commit_index, applied_number, term_at, commit_rises, commit_raised}
-use Rattle.raft_log.proofs.ViewLaws.{length_log, log_term}
 use Rattle.raft_log.proofs.LogLaws.{same_applied, commit_raised_other, commit_raised_up}
 use Rattle.raft_log.proofs.LogChanges.{commit_raised_log, commit_raised_tidy}
 use Rattle.tracker.specs.Majority.{reached}
@@ -17,7 +16,7 @@ use Rattle.protocol.specs.Log.{Log, term_before}
 use Rattle.protocol.specs.History.{count}
 use Rattle.machine.specs.Step.{is_majority, majority_index, maybe_commit}
 use Rattle.join_several.specs.Stands.{conf, lift_log}
-use Rattle.join_several.proofs.Lifts.{lift_last, lift_before, cond_pick, lift_length, lift_term}
+use Rattle.join_several.proofs.Lifts.{lift_last, lift_before, cond_pick}
 
 -- COUNTING along a row of memory is counting machines
 pub count_row :

@@ -2,9 +2,9 @@
 use Rattle.std.proofs.Common.{◌≡◌, ℕ, zero, suc, ◌+◌, ◌*◌, ◌<◌, ◌≤◌, Bool, true, false, cond, ◌&&◌, eqb, ltb, List, [], ◌∷◌, length, get_or, sym, refl, ap, ◌∙◌, subst, inl, inr, mod-lt, arith}
 use Rattle.std.proofs.lemmas.Bool.{cases_eq, cases_Bool, eq-eqb, ne_eqb, le-ltb, lt-ltb, cond-true, cond-false}
 use Rattle.raft_log.specs.Layout.{memory_words}
-use Rattle.raft_log.specs.View.{log_of, Tidy}
-use Rattle.raft_log.specs.Entries.{commit_index, applied_number}
-use Rattle.raft_log.proofs.LogChanges.{header_log, header_tidy}
+use Rattle.raft_log.specs.View.{log_of}
+use Rattle.raft_log.specs.Entries.{applied_number}
+use Rattle.raft_log.proofs.LogChanges.{header_log}
 use Rattle.raft.specs.declared.header.Role.{Role as Kind}
 use Rattle.raft.specs.declared.header.Role.TheVariants.{Follower, Candidate}
 use Rattle.raft.specs.declared.header.Machine.{Machine as Header}
@@ -21,9 +21,9 @@ use Rattle.protocol.specs.Lists.{pick}
 use Rattle.protocol.specs.History.{count, owner as owner_of}
 use Rattle.machine.specs.Machine.{Machine, Role, follower, candidate, leader, Letter, here, Out, out, Outcome, outcome}
 use Rattle.machine.specs.Step.{owner, is_majority, broadcast, request_of, as_candidate, as_follower, new_leader, become_leader, poll, enter, enter_higher}
-use Rattle.join_several.specs.Stands.{conf, lift_log, RoleStands, Stands}
+use Rattle.join_several.specs.Stands.{conf, Stands}
 use Rattle.join_several.specs.Does.{posted, Room}
-use Rattle.join_several.proofs.Frames.{stands_from, commit_alike, applied_alike, due_row_long, due_row_behind, stands_said_others, stands_said, stands_stored}
+use Rattle.join_several.proofs.Frames.{stands_from, applied_alike, due_row_long, due_row_behind, stands_said_others, stands_said, stands_stored}
 use Rattle.join_several.proofs.Answered.{said_loaded, said_applied}
 use Rattle.join_several.proofs.Leads.{said_others_loaded, said_others_applied, LeadsNow, led_leads}
 use Rattle.join_several.proofs.Outs.{letter_of, posted_others, posted_to, to_others_cong, made_request, made_here}

@@ -87,14 +87,18 @@ pub stands_said : (m : List ℕ) (j : ℕ) (d : Due) (n id : ℕ) (x : Machine (
 unfolding said_to
 stands_said m j d n id x few s = stands_row m _ n id x few s
 
-pub stands_answered : (m : List ℕ) (j : ℕ) (d : Due) (a b n id : ℕ) (x : Machine (List ℕ)) → n ≤ 7 → Stands n id m x → Stands n id (answered m j d a b) x
+pub answered_other : (m : List ℕ) (j : ℕ) (d : Due) (a b i : ℕ) → i ≢ 36 → i ≢ 37 → get_or (answered m j d a b) i 0 ≡ get_or (said_to m j d) i 0
 unfolding answered
+answered_other m j d a b i p q = get_or-set_other (set (said_to m j d) 36 a) 37 i b 0 q ∙ get_or-set_other (said_to m j d) 36 i a 0 p
+
+length_answered : (m : List ℕ) (j : ℕ) (d : Due) (a b : ℕ) → length (answered m j d a b) ≡ length (said_to m j d)
+unfolding answered
+length_answered m j d a b = simp length-set
+
+pub stands_answered : (m : List ℕ) (j : ℕ) (d : Due) (a b n id : ℕ) (x : Machine (List ℕ)) → n ≤ 7 → Stands n id m x → Stands n id (answered m j d a b) x
 stands_answered m j d a b n id x few s =
-    stands_alike (said_to m j d) (set (set (said_to m j d) 36 a) 37 b) (simp length-set) (λ i l. other i (omega arith) (omega arith)) (λ i l. other i (omega arith) (omega arith)) n id x few
-    (stands_said m j d n id x few s)
-  where
-    other : (i : ℕ) → i ≢ 36 → i ≢ 37 → get_or (set (set (said_to m j d) 36 a) 37 b) i 0 ≡ get_or (said_to m j d) i 0
-    other i p q = get_or-set_other (set (said_to m j d) 36 a) 37 i b 0 q ∙ get_or-set_other (said_to m j d) 36 i a 0 p
+    stands_alike (said_to m j d) (answered m j d a b) (length_answered m j d a b) (λ i l. answered_other m j d a b i (omega arith) (omega arith))
+    (λ i l. answered_other m j d a b i (omega arith) (omega arith)) n id x few (stands_said m j d n id x few s)
 
 -- A NEW STRUCT over a memory whose log and rows are right
 pub stands_stored :

@@ -1,5 +1,5 @@
 -- What is read off a row of entries is the same in the log of the theory.
-use Rattle.std.proofs.Common.{◌≡◌, ℕ, zero, suc, pred, ◌-◌, min, Bool, true, false, cond, ◌&&◌, ◌||◌, eqb, ltb, leb, List, [], ◌∷◌, ◌++◌, length, get_or, take, drop, sym, refl, ap, ◌∙◌, inl, inr, arith}
+use Rattle.std.proofs.Common.{◌≡◌, ℕ, zero, suc, pred, ◌-◌, min, Bool, true, false, cond, ◌&&◌, ◌||◌, eqb, ltb, leb, List, [], ◌∷◌, ◌++◌, length, get_or, take, drop, sym, refl, ap, ◌∙◌, inl, inr}
 use mathlib.Core.Option.{Option, none, some}
 use Rattle.std.proofs.lemmas.List.{length-map, map-append, take-map, drop-map}
 use Rattle.std.proofs.lemmas.Bool.{eq-eqb, ne_eqb, cases_eq}
@@ -17,6 +17,7 @@ use Rattle.join_several.specs.Stands.{conf, lift_entry, lift_log}
 use Rattle.raft_log.specs.Entries.{last_index, term_at as term_at_index}
 use Rattle.raft_log.specs.View.{log_of}
 use Rattle.raft_log.proofs.ViewLaws.{length_log, log_term}
+use Rattle.std.proofs.Math.Numerals.{sub-one}
 
 -- a test of the code is a choice of the theory
 pub cond_pick : {A : Type 0} (b : Bool) (x y : A) → cond b x y ≡ pick b x y
@@ -111,15 +112,11 @@ lift_by_term l t (suc i) =
     let r = lift_by_term l t i in
     cond_pick (leb (row_term l (suc i)) t) (suc i) (conflict_by_term l t i) ∙ (λ j. pick (leb (tm j) t) (suc i) (r j))
 
-pred_less : (p : ℕ) → p - 1 ≡ pred p
-pred_less zero = refl
-pred_less (suc p) = omega arith
-
 pub lift_hint : (n : ℕ) (l : List Row) (p q : ℕ) → row_hint l p q ≡ hint (conf n) (lift_log l) p q
 unfolding row_hint
 lift_hint n l p q =
     let e : at_most (p - 1) (length l) ≡ min (pred p) (length (lift_log l)) =
-    at_most_min (p - 1) (length l) ∙ (ap (λ (x : ℕ). min x (length l)) (pred_less p) ∙ ap (min (pred p)) (sym (lift_length l))) in
+    at_most_min (p - 1) (length l) ∙ (ap (λ (x : ℕ). min x (length l)) (sub-one p) ∙ ap (min (pred p)) (sym (lift_length l))) in
     ap (conflict_by_term l q) e ∙ lift_by_term l q (min (pred p) (length (lift_log l)))
 
 -- WHAT IS DECIDED

@@ -8,7 +8,7 @@ use Rattle.raft_log.specs.View.{log_of}
 use Rattle.raft_log.specs.Entries.{last_index, commit_index, term_at}
 use Rattle.raft_log.proofs.ValueLaws.{at_most_same}
 use Rattle.raft_log.proofs.LogLaws.{SameEntries, same_entries, same_commit}
-use Rattle.raft_log.proofs.ViewLaws.{length_log, log_term, log_entries_part}
+use Rattle.raft_log.proofs.ViewLaws.{length_log, log_entries_part}
 use Rattle.raft.specs.declared.header.Role.{Role as Kind}
 use Rattle.raft.specs.declared.header.Role.TheVariants.{Follower, Candidate, Leader}
 use Rattle.raft.specs.declared.header.Machine.{Machine as Header}
@@ -29,7 +29,7 @@ use Rattle.machine.specs.Step.{to_others, request_of, append_at}
 use Rattle.join_several.specs.Stands.{conf, lift_log, Leads, RoleStands, Stands}
 use Rattle.join_several.specs.Does.{lift_letter, lift_mail, posted}
 use Rattle.join_several.proofs.Frames.{due_row_long, due_row_before, due_row_behind}
-use Rattle.join_several.proofs.Lifts.{lift_length, lift_take, lift_drop, lift_term}
+use Rattle.join_several.proofs.Lifts.{lift_take, lift_drop}
 use Rattle.join_several.proofs.Lifts.{lift_last, lift_before}
 
 -- pieces g 0, g 1 .. one behind the other: from the front, and by the last

@@ -1,8 +1,8 @@
 -- A leader takes a proposal in.
-use Rattle.std.proofs.Common.{◌≡◌, ℕ, ◌+◌, ◌<◌, ◌≤◌, Bool, true, ◌≢◌, List, [], ◌∷◌, ◌++◌, length, get_or, take, set, sym, refl, ap, ◌∙◌, subst, inl, inr, arith}
+use Rattle.std.proofs.Common.{◌≡◌, ℕ, ◌+◌, ◌<◌, ◌≤◌, Bool, true, ◌≢◌, List, [], ◌∷◌, ◌++◌, length, get_or, take, set, sym, refl, ap, ◌∙◌, subst, arith}
 use mathlib.Core.Option.{some}
 use Rattle.std.proofs.lemmas.List.{length-set, get_or-set_other, take_all}
-use Rattle.std.proofs.lemmas.Bool.{lt-ltb, cases_eq, true≢false}
+use Rattle.std.proofs.lemmas.Bool.{lt-ltb, true≢false}
 use Rattle.raft_log.specs.Layout.{memory_words}
 use Rattle.raft_log.specs.View.{log_of, Tidy, decisions as row_decisions}
 use Rattle.raft_log.specs.Block.{Entry as Row}
@@ -23,7 +23,6 @@ use Rattle.raft.proofs.HeaderLaws.{Held, loaded_stored, loaded_held}
 use Rattle.protocol.specs.Lists.{pick, upd}
 use Rattle.protocol.specs.Log.{entry, Log, decisions}
 use Rattle.protocol.proofs.Logs.{push_length}
-use Rattle.protocol.proofs.Updates.{upd_at, upd_other}
 use Rattle.machine.specs.Machine.{Machine, Outcome, outcome}
 use Rattle.machine.specs.Step.{broadcast, append_at, extended, proposed, propose_as, append_proposal, on_proposal}
 use Rattle.join_several.specs.Stands.{conf, lift_log, Leads, RoleStands, Stands}

@@ -3,7 +3,6 @@ use Rattle.std.proofs.Common.{◌≡◌, ℕ, zero, suc, ◌+◌, ◌*◌, ◌<�
 use Rattle.std.proofs.lemmas.List.{length-set, get_or-set_other, length-append}
 use Rattle.std.proofs.lemmas.Bool.{lt-ltb, le-ltb, ne_eqb, cases_eq, cases_lt, cases_Bool, cond-true, cond-false, true≢false}
 use Rattle.raft_log.specs.Layout.{memory_words}
-use Rattle.raft_log.proofs.LogChanges.{header_log, header_tidy}
 use Rattle.raft.specs.declared.header.Ticks.{Ticks}
 use Rattle.raft.specs.declared.header.Role.{Role as Kind}
 use Rattle.raft.specs.declared.header.Role.TheVariants.{Candidate}
@@ -16,9 +15,9 @@ use Rattle.protocol.specs.Lists.{pick, upd}
 use Rattle.protocol.specs.History.{count}
 use Rattle.machine.specs.Machine.{Machine, Role, follower, candidate, leader, Letter, Out, out, Outcome, outcome}
 use Rattle.machine.specs.Step.{is_majority, to_others, append_at, new_leader, become_leader, as_candidate, poll}
-use Rattle.join_several.specs.Stands.{conf, lift_log, Stood, RoleStands, Stands}
+use Rattle.join_several.specs.Stands.{conf, Stood, RoleStands, Stands}
 use Rattle.join_several.specs.Does.{posted, Room, Told, says, keeps, Handles}
-use Rattle.join_several.proofs.Frames.{stands_from, commit_alike, applied_alike}
+use Rattle.join_several.proofs.Frames.{stands_from, applied_alike}
 use Rattle.join_several.proofs.Outs.{posted_alike}
 use Rattle.join_several.proofs.Commits.{count_row}
 use Rattle.join_several.proofs.Leads.{set_row, led_leads}

@@ -9,6 +9,16 @@ use Rattle.together.specs.Promise.{are_bytes}
 pub no_way : {A : Type 0} → ◌≡◌ {A = ℕ} 0 1 → A
 no_way e = absurd (omega arith)
 
+-- rows with a first: the same first, the same others; and no such row is empty
+pub head_same : {A : Type 0} {x y : A} {xs ys : List A} → ◌≡◌ {A = List A} (x ∷ xs) (y ∷ ys) → x ≡ y
+head_same e = cc
+
+pub tail_same : {A : Type 0} {x y : A} {xs ys : List A} → ◌≡◌ {A = List A} (x ∷ xs) (y ∷ ys) → xs ≡ ys
+tail_same e = cc
+
+pub not_same : {A : Type 0} {x : A} {xs : List A} → ◌≡◌ {A = List A} (x ∷ xs) [] → ⊥
+not_same e = let l = ap length e in omega arith
+
 pub or_left : (x y : Bool) → x ≡ true → or x y ≡ true
 or_left x y e = ap (λ t. or t y) e
 

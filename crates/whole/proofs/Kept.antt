@@ -1,6 +1,8 @@
 -- From "whatever happens keeps an invariant" to the main promise, for any engine and any invariant.
-use Rattle.std.proofs.Common.{◌≡◌, ℕ, suc, ◌+◌, ◌<◌, ◌≤◌, Bool, true, false, List, [], ◌∷◌, length, arith}
+use Rattle.std.proofs.Common.{eqb, ◌≡◌, ℕ, suc, ◌+◌, ◌<◌, ◌≤◌, Bool, true, false, List, [], ◌∷◌, length, arith}
 use Rattle.together.specs.Promise.{Engine, World, Thing, Item, whole, cut, proper, thing_ran, after_thing, applied_right, may_end, Calm, Right}
+use Rattle.together.specs.House.{far}
+use Rattle.together.specs.Promise.{machine, so_many, world, Steady, Whole}
 
 -- how something goes that is not cut short: it ends as it may, what it applies is right, and the invariant holds of the world after
 pub record WholeKept (e : Engine) (I : World → Type 0) (w : World) (t : Thing) : Type 0 where
@@ -36,4 +38,13 @@ keeps_right calm e I h (cut t n ∷ is) k w l i = (
   λ c. h.settles k w (omega arith) i c,
   λ p. let g = h.cut_keeps k w t n (omega arith) i p in
       (g.order, g.right, keeps_right calm e I h is (suc k) (after_thing w t (thing_ran n e w t) false g.order) (omega arith) g.kept),
+)
+
+-- THE MAIN PROMISE of an engine that keeps an invariant of so many machines
+pub keeps_whole : (e : Engine) (I : ℕ → ℕ → World → Type 0) → Steady e → ((many : ℕ) → Keeps (eqb many 1) e (I many)) →
+    ((many : ℕ) → 1 ≤ many → many ≤ 7 → I many 0 (world (so_many many (machine [] e.start false (far 0 []))) [] [] [] [])) → Whole false e
+unfolding Whole
+keeps_whole e I s k f = (
+  s,
+  λ many is l₁ l₂ l₃. keeps_right (eqb many 1) e (I many) (k many) is 0 (world (so_many many (machine [] e.start false (far 0 []))) [] [] [] []) (omega arith) (f many l₁ l₂),
 )

@@ -4,12 +4,12 @@ use Rattle.std.proofs.lemmas.Bool.{false≢true}
 use Rattle.raft_log.proofs.LogLaws.{commit_most}
 use Rattle.solo.specs.Header.{loaded}
 use Rattle.together.specs.House.{every, all_apart, far}
-use Rattle.together.specs.Promise.{Machine, machine, so_many, world, Right, Whole}
+use Rattle.together.specs.Promise.{Machine, machine, so_many, world, Whole}
 use Rattle.together.specs.Machine.{start}
 use Rattle.together.specs.Entry.{own}
 use Rattle.together.proofs.Lengths.{length_start}
 use Rattle.together.proofs.Starts.{start_at, start_last, start_applied, start_values}
-use Rattle.whole.proofs.Kept.{Keeps, keeps_right}
+use Rattle.whole.proofs.Kept.{Keeps, keeps_whole}
 use Rattle.whole.proofs.Steady.{steady}
 use Rattle.whole.proofs.Holds.{Holds}
 use Rattle.whole.proofs.Worlds.{Sound, Good, whole_kept, cut_kept}
@@ -68,9 +68,6 @@ unfolding own
 start_is = refl
 
 pub whole_own : Whole false own
-unfolding Whole
-whole_own = (
-  steady,
-  λ many is l₁ l₂ l₃. subst (λ (s : List ℕ). Right (eqb many 1) own (world (so_many many (machine [] s false (far 0 []))) [] [] [] []) is) (sym start_is)
-      (keeps_right (eqb many 1) own (Good many) (keeps many) is 0 (world (so_many many first) [] [] [] []) (omega arith) (start_good many l₂)),
-)
+whole_own =
+    keeps_whole own Good steady keeps
+    (λ many l₁ l₂. subst (λ (s : List ℕ). Good many 0 (world (so_many many (machine [] s false (far 0 []))) [] [] [] [])) (sym start_is) (start_good many l₂))

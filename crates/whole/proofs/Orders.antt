@@ -1,5 +1,5 @@
 -- The order as it grows by one, and the list of machines as one of them changes.
-use Rattle.std.proofs.Common.{get_or, Bool, ◌≡◌, ℕ, zero, suc, ◌+◌, ◌-◌, ◌*◌, ◌<◌, ◌&&◌, leb, ◌∙◌, subst, true, false, not, eqb, ltb, ◌≢◌, List, [], ◌∷◌, ◌++◌, length, refl, ap, arith}
+use Rattle.std.proofs.Common.{◌≤◌, get_or, Bool, ◌≡◌, ℕ, zero, suc, ◌+◌, ◌-◌, ◌*◌, ◌<◌, ◌&&◌, leb, ◌∙◌, subst, true, false, not, eqb, ltb, ◌≢◌, List, [], ◌∷◌, ◌++◌, length, refl, ap, arith}
 use Rattle.std.proofs.lemmas.List.{length_push}
 use Rattle.std.proofs.lemmas.Bool.{le-leb, ltb-true, lt-ltb, eq-eqb, ne_eqb, and_parts, and_from, not-true, not_from_false}
 use Rattle.together.specs.House.{or, every, any, nth_value, all_apart, an_order, begins}
@@ -8,6 +8,9 @@ use Rattle.together.proofs.Lists.{every_weaker, every_append, any_append}
 use Rattle.together.specs.House.{pick, those, same, Applied, applied, by_order}
 use Rattle.together.specs.Promise.{Flown, world, enough_up}
 use Rattle.together.proofs.Lists.{no_way, same_self}
+use Rattle.together.specs.House.{each}
+use Rattle.together.specs.Promise.{most, most_applied, all_got, last_since}
+use Rattle.together.proofs.Lists.{or_right}
 
 pub nth_front : (ps : List (List ℕ)) (v : List ℕ) (j : ℕ) → j < length ps → nth_value (ps ++ v ∷ []) j ≡ nth_value ps j
 unfolding nth_value
@@ -104,6 +107,19 @@ up_alone x fs ps o ds e = go x.up e
     go : (b : Bool) → ltb 1 (2 * length (pick b (x ∷ []) [])) ≡ true → b ≡ true
     go true e = refl
     go false e = e
+
+pub most_alone : (x : Machine) (fs : List Flown) (ps : List (List ℕ)) (o : List ℕ) (ds : List Applied) (n : ℕ) → x.how_it_got.ever ≤ n → most_applied (world (x ∷ []) fs ps o ds) ≤ n
+unfolding each most
+most_alone x fs ps o ds n l = go (ltb x.how_it_got.ever 0)
+  where
+    go : (b : Bool) → pick b 0 x.how_it_got.ever ≤ n
+    go true = omega arith
+    go false = l
+
+pub got_alone : (x : Machine) (fs : List Flown) (ps : List (List ℕ)) (o : List ℕ) (ds : List Applied) (k : ℕ) → k ≤ last_since x.how_it_got.since → all_got (world (x ∷ []) fs ps o ds) k ≡ true
+unfolding every
+got_alone x fs ps o ds k l =
+    and_from (or (not x.up) (leb k (last_since x.how_it_got.since))) true (or_right (not x.up) (leb k (last_since x.how_it_got.since)) (le-leb k (last_since x.how_it_got.since) l)) refl
 
 pub one_machine : (P : List Machine → Type 0) (ms : List Machine) → length ms ≡ 1 → ((x : Machine) → P (x ∷ [])) → P ms
 one_machine P [] e f = no_way e

@@ -1,5 +1,5 @@
 -- One machine alone, in calm: after ten ticks it leads, and then what is proposed is decided and applied at once.
-use Rattle.std.proofs.Common.{◌≡◌, ℕ, zero, suc, ◌+◌, ◌<◌, ◌≤◌, Bool, true, false, not, ◌&&◌, eqb, ltb, leb, ◌⊎◌, List, [], ◌∷◌, ◌++◌, length, Ok, sym, refl, ap, ◌∙◌, subst, inl, inr, arith}
+use Rattle.std.proofs.Common.{◌≡◌, ℕ, zero, suc, ◌+◌, ◌<◌, ◌≤◌, Bool, true, ◌&&◌, eqb, ltb, leb, ◌⊎◌, List, [], ◌∷◌, ◌++◌, length, Ok, sym, refl, ap, ◌∙◌, subst, inl, inr, arith}
 use Rattle.std.proofs.lemmas.List.{length_push, get_or_push}
 use Rattle.std.proofs.lemmas.Bool.{lt-ltb, le-leb, eq-eqb, eqb-true, and_from}
 use Rattle.raft_log.specs.Values.{value_at}
@@ -10,8 +10,8 @@ use Rattle.solo.specs.declared.header.Role.TheVariants.{Follower, Candidate, Lea
 use Rattle.solo.specs.Header.{loaded}
 use Rattle.solo.specs.Election.{ticked}
 use Rattle.solo.specs.Proposal.{taken, proposed}
-use Rattle.together.specs.House.{pick, or, every, any, each, same, propose, Applied, applied, far_after, nth_value}
-use Rattle.together.specs.Promise.{Ran, runs, last_since, most, are_bytes, said, tick, Machine, machine_at, set_machine, World, world, flown, Flown, says, ticks, to_whom, event_for, proper, before, thing_ran, after_machine, with_proposal, after_thing, all_tick, all_come, round, rounds, all_got, most_applied, proposing, Takes, Calm}
+use Rattle.together.specs.House.{pick, every, any, each, same, propose, Applied, applied, far_after, nth_value}
+use Rattle.together.specs.Promise.{Ran, runs, last_since, are_bytes, said, tick, Machine, machine_at, set_machine, World, world, flown, Flown, says, ticks, to_whom, event_for, proper, before, thing_ran, after_machine, with_proposal, after_thing, all_tick, all_come, round, rounds, all_got, most_applied, proposing, Takes, Calm}
 use Rattle.together.specs.Machine.{acts}
 use Rattle.together.specs.Entry.{own}
 use Rattle.whole.proofs.Plans.{runs_event}
@@ -26,6 +26,7 @@ use Rattle.together.proofs.Lists.{or_left, any_later, same_self}
 use Rattle.whole.proofs.Orders.{nth_last}
 use Rattle.whole.proofs.Proposed.{leader_takes}
 use Rattle.whole.proofs.Orders.{up_alone, one_machine}
+use Rattle.whole.proofs.Orders.{most_alone, got_alone}
 
 left_most : (m : List ℕ) → left (loaded m).role ≤ 10
 left_most m = go (loaded m).role
@@ -55,12 +56,7 @@ module _ (ps : List (List ℕ)) (o : List ℕ) where
     since_all = rests_since 1 0 k ps o x.memory x.how_it_got rests
 
     pub most_of_one : most_applied (lone x ds) ≤ length o
-    unfolding each most
-    most_of_one = one (ltb x.how_it_got.ever 0)
-      where
-        one : (b : Bool) → pick b 0 x.how_it_got.ever ≤ length o
-        one true = omega arith
-        one false = sound.ever
+    most_of_one = most_alone x [] ps o ds (length o) sound.ever
 
     -- A TICK
     proper_tick : proper (lone x ds) (ticks 0) ≡ true
@@ -255,8 +251,7 @@ module _ (ps : List (List ℕ)) (o : List ℕ) where
         enough,
         11,
         subst (λ (w : World). all_got w (most_applied (lone x ds)) ≡ true) (sym t.is)
-            (and_from (or (not t.x₁.up) (leb (most_applied (lone x ds)) (since t.x₁))) true
-            (rw t.up (le-leb (most_applied (lone x ds)) (since t.x₁) (omega (arith, most_of_one k x ds g u)))) refl),
+            (got_alone t.x₁ [] ps o t.ds₁ (most_applied (lone x ds)) (omega (arith, s, most_of_one k x ds g u))),
         λ room. subst (λ (w : World). Takes own enough w) (sym t.is) (takes (k + 11) t.x₁ t.ds₁ t.good t.up l room),
       )
 

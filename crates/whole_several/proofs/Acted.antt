@@ -11,7 +11,7 @@ use Rattle.protocol.proofs.Updates.{upd_same, upd_other}
 use Rattle.protocol.proofs.Lists.{begins_length}
 use Rattle.machine.specs.Machine.{Machine, Out, Outcome, Input, Persistent, persist, decided}
 use Rattle.machine.specs.Step.{step}
-use Rattle.machine.specs.Maps.{map_log, map_machine, map_outcome}
+use Rattle.machine.specs.Maps.{map_machine, map_outcome}
 use Rattle.machine.specs.World.{World as Theory, Mail, post, longer, Fate, whole, early, late, Item, input, Possible, Unchanged, Settles, Allowed, proposals_after, settled, next, Reachable}
 use Rattle.machine.proofs.MapLogs.{term_map, log_length}
 use Rattle.machine.proofs.Terms.{TermsBelow, terms_next}

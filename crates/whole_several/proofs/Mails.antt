@@ -22,7 +22,7 @@ use Rattle.together.proofs.Smalls.{small_word, small_words}
 use Rattle.whole_several.proofs.Smalls.{loaded_small}
 use Rattle.raft.specs.Say.{due_of}
 use Rattle.raft.specs.Outbox.{due_to, prev_of, count_of, letter_made, Mail, mail, mail_at, mail_from, mail_due, flown_to}
-use Rattle.together.proofs.Lists.{no_way}
+use Rattle.together.proofs.Lists.{head_same, tail_same, not_same}
 
 -- WHAT NO ACT CHANGES: who the machine is, its term and role, its rows, its log and what of it is decided
 pub record Still (m m₁ : List ℕ) : Type 0 where
@@ -89,15 +89,6 @@ pub record Flies (m : List ℕ) (j n : ℕ) (l : Mail) (ls : List Mail) : Type 0
   pub most : l.to < j + n
   pub left : mail_from (flown_to m l.to) j n ≡ ls
 
-none_not_some : {A B : Type 0} (x : A) (xs : List A) → [] ≡ x ∷ xs → B
-none_not_some x xs e = no_way cc
-
-head_is : (x y : Mail) (xs ys : List Mail) → x ∷ xs ≡ y ∷ ys → x ≡ y
-head_is x y xs ys e = cc
-
-tail_is : (x y : Mail) (xs ys : List Mail) → x ∷ xs ≡ y ∷ ys → xs ≡ ys
-tail_is x y xs ys e = cc
-
 -- one machine further, by whether a letter is due to the first
 mail_more : (m : List ℕ) (j n : ℕ) → mail_from m j (suc n) ≡ mail_at m (loaded m) j (due_to m j) ++ mail_from m (suc j) n
 unfolding mail_from
@@ -107,7 +98,7 @@ module _ (m : List ℕ) (long : length m ≡ memory_words) (j n : ℕ) (few : j 
   -- the letter to j flew, and was the first
   flies_here : (d : Due) → mail j (letter_made m (loaded m) j d) ∷ mail_from m (suc j) n ≡ l ∷ ls → Flies m j (suc n) l ls
   flies_here d e =
-      let to : j ≡ l.to = ap (λ (x : Mail). x.to) (head_is (mail j (letter_made m (loaded m) j d)) l (mail_from m (suc j) n) ls e) in
+      let to : j ≡ l.to = ap (λ (x : Mail). x.to) (head_same e) in
       let gone : mail_from (flown_to m j) j (suc n) ≡ mail_from (flown_to m j) (suc j) n =
       mail_more (flown_to m j) j n
       ∙ ap (λ (w : ℕ). mail_at (flown_to m j) (loaded (flown_to m j)) j (due_of w) ++ mail_from (flown_to m j) (suc j) n) (flown_word m j long (omega arith)) in
@@ -118,7 +109,7 @@ module _ (m : List ℕ) (long : length m ≡ memory_words) (j n : ℕ) (few : j 
         most = omega (arith, to);
         left =
             ap (λ (k : ℕ). mail_from (flown_to m k) j (suc n)) (sym to)
-            ∙ (gone ∙ (others ∙ tail_is (mail j (letter_made m (loaded m) j d)) l (mail_from m (suc j) n) ls e));
+            ∙ (gone ∙ (others ∙ tail_same e));
       }
 
   -- none is due to j
@@ -139,7 +130,7 @@ module _ (m : List ℕ) (long : length m ≡ memory_words) (j n : ℕ) (few : j 
 -- THE FIRST LETTER that is due, and what is due after it
 pub flies_first : (m : List ℕ) → length m ≡ memory_words → (j n : ℕ) → j + n ≤ 7 → (l : Mail) (ls : List Mail) → mail_from m j n ≡ l ∷ ls → Flies m j n l ls
 unfolding mail_from
-flies_first m long j zero few l ls e = none_not_some l ls e
+flies_first m long j zero few l ls e = absurd (not_same (sym e))
 flies_first m long j (suc n) few l ls e =
     flies_by m long j n few l ls (due_to m j) refl e (λ e₁. flies_first m long (suc j) n (omega arith) l ls e₁)
 

@@ -12,12 +12,12 @@ use Rattle.machine.proofs.Terms.{terms_initial}
 use Rattle.machine.proofs.Steps.{runs_none}
 use Rattle.join_several.specs.Stands.{conf, lift_log}
 use Rattle.together.specs.House.{far}
-use Rattle.together.specs.Promise.{Machine, machine, so_many, world, Right, Whole}
+use Rattle.together.specs.Promise.{Machine, machine, so_many, world, Whole}
 use Rattle.together.specs.Machine.{start}
 use Rattle.together_several.specs.Entry.{own}
 use Rattle.together.proofs.Lengths.{length_start}
 use Rattle.together.proofs.Starts.{start_at, small_start, start_last, start_applied}
-use Rattle.whole.proofs.Kept.{Keeps, keeps_right}
+use Rattle.whole.proofs.Kept.{Keeps, keeps_whole}
 use Rattle.whole_several.proofs.Steady.{steady}
 use Rattle.whole_several.proofs.Joined.{Safe, Joined}
 use Rattle.whole_several.proofs.Worlds.{Good, whole_kept, cut_kept}
@@ -100,9 +100,4 @@ pub first_joined : (many : ℕ) → 1 ≤ many → many ≤ 7 → Joined many 0 
 first_joined many some few = subst (λ (s : List ℕ). Joined many 0 (world (so_many many (machine [] s false (far 0 []))) [] [] [] []) initial) (sym start_is) (start_joined many some few)
 
 pub whole_own : Whole false own
-unfolding Whole
-whole_own = (
-  steady,
-  λ many is l₁ l₂ l₃. subst (λ (s : List ℕ). Right (eqb many 1) own (world (so_many many (machine [] s false (far 0 []))) [] [] [] []) is) (sym start_is)
-      (keeps_right (eqb many 1) own (Good many) (keeps many) is 0 (world (so_many many first) [] [] [] []) (omega arith) (initial, start_joined many l₁ l₂)),
-)
+whole_own = keeps_whole own Good steady keeps (λ many l₁ l₂. (initial, first_joined many l₁ l₂))

@@ -1,5 +1,5 @@
 -- One machine alone, in calm: a round is a tick, and after at most ten it leads.
-use Rattle.std.proofs.Common.{◌≡◌, ℕ, zero, suc, ◌+◌, ◌-◌, ◌≤◌, Bool, true, false, ltb, List, [], ◌∷◌, ◌++◌, length, sym, refl, ap, ◌∙◌, subst, arith}
+use Rattle.std.proofs.Common.{◌≡◌, ℕ, zero, suc, ◌+◌, ◌-◌, ◌≤◌, Bool, true, List, [], ◌∷◌, ◌++◌, length, sym, refl, ap, ◌∙◌, subst, arith}
 use Rattle.std.proofs.lemmas.List.{append-nil, take_all}
 use Rattle.raft_log.specs.Entries.{applied_number, decided as decided_number}
 use Rattle.protocol.specs.Log.{decisions}
@@ -11,13 +11,14 @@ use Rattle.machine.proofs.AloneHolds.{alone_decided, alone_order_up}
 use Rattle.machine.proofs.Alone.{alone_tick_silent}
 use Rattle.join_several.specs.Stands.{conf}
 use Rattle.together.specs.House.{pick, each, Applied, Far}
-use Rattle.together.specs.Promise.{tick, Letter as Wire, Ran, runs, last_since, most, Machine, machine_at, set_machine, World, world, Flown, flown, ticks, to_whom, event_for, proper, before, thing_ran, after_machine, with_proposal, after_thing, all_tick, all_come, round, rounds, most_applied}
+use Rattle.together.specs.Promise.{tick, Letter as Wire, Ran, runs, last_since, Machine, machine_at, set_machine, World, world, Flown, flown, ticks, to_whom, event_for, proper, before, thing_ran, after_machine, with_proposal, after_thing, all_tick, all_come, round, rounds, most_applied}
 use Rattle.together_several.specs.Entry.{own}
 use Rattle.whole_several.proofs.Joined.{Rests, Joined}
 use Rattle.whole_several.proofs.Moved.{Became, became_now, became_silent, moved_joined}
 use Rattle.whole_several.proofs.Made.{going_decided}
 use Rattle.whole_several.proofs.Lone.{Leads, Near, near_tick}
 use Rattle.whole_several.proofs.Events.{enough, tick_became}
+use Rattle.whole.proofs.Orders.{most_alone}
 
 -- at rest all that is decided is applied
 pub rests_since : (n h : ℕ) → n ≤ 7 → (ps : List (List ℕ)) (x : Model ℕ) (m : List ℕ) (f : Far) → Rests n h ps x m f → last_since f.since ≡ length (decided x)
@@ -60,12 +61,8 @@ module _ (ps : List (List ℕ)) (fs : List Flown) where
 
     -- no more was ever applied than the order has
     pub most_of_one : most_applied (alone x w.order ds) ≤ length w.order
-    unfolding each most machine_at
-    most_of_one = one (ltb x.how_it_got.ever 0)
-      where
-        one : (b : Bool) → pick b 0 x.how_it_got.ever ≤ length w.order
-        one true = omega arith
-        one false = j.ever 0 (omega arith)
+    unfolding machine_at
+    most_of_one = most_alone x fs ps w.order ds (length w.order) (j.ever 0 (omega arith))
 
     -- a leader has applied all of the order
     pub leader_decided : Leads (w.memory 0) → decided (w.memory 0) ≡ decisions (w.memory 0).log

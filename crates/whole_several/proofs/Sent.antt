@@ -1,5 +1,5 @@
 -- The letters that a machine sends: their bytes on the wire stand for the theory's letters.
-use Rattle.std.proofs.Common.{◌≡◌, ℕ, zero, suc, List, [], ◌∷◌, ◌++◌, map, length, take, sym, refl, ap, subst, inl, inr, arith}
+use Rattle.std.proofs.Common.{◌≡◌, ℕ, zero, suc, List, [], ◌∷◌, ◌++◌, map, take, sym, refl, ap, subst, inl, inr}
 use Rattle.messages.specs.Letter.{letter_bytes, LetterFits}
 use Rattle.messages.proofs.RoundTrip.{round_trip, letters_short}
 use Rattle.raft.specs.Outbox.{Mail as DueMail}
@@ -12,6 +12,7 @@ use Rattle.together.specs.House.{each, nth_value}
 use Rattle.together.specs.Promise.{Letter as Wire, letter, flown}
 use Rattle.whole_several.proofs.Joined.{Agrees, Carried, Boxes}
 use Rattle.together.proofs.Lists.{are_bytes_from}
+use Rattle.together.proofs.Lists.{head_same, tail_same, not_same}
 
 pub in_left : {A : Type 0} (x : A) (xs ys : List A) → In x xs → In x (xs ++ ys)
 in_left x [] ys i = absurd i
@@ -32,26 +33,6 @@ MailFits l = LetterFits l.letter
 -- what was proposed agrees with itself
 pub agrees_self : (ps : List (List ℕ)) → Agrees (nth_value ps) ps
 agrees_self ps i l = refl
-
--- the first of a row, and the others
-first_or : {A : Type 0} → A → List A → A
-first_or d [] = d
-first_or d (x ∷ xs) = x
-
-others : {A : Type 0} → List A → List A
-others [] = []
-others (x ∷ xs) = xs
-
-head_same : {A : Type 0} {x y : A} {xs ys : List A} → ◌≡◌ {A = List A} (x ∷ xs) (y ∷ ys) → x ≡ y
-unfolding first_or
-head_same {A} {x} e = ap (first_or x) e
-
-tail_same : {A : Type 0} {x y : A} {xs ys : List A} → ◌≡◌ {A = List A} (x ∷ xs) (y ∷ ys) → xs ≡ ys
-unfolding others
-tail_same e = ap others e
-
-not_same : {A : Type 0} {x : A} {xs : List A} → ◌≡◌ {A = List A} (x ∷ xs) [] → ⊥
-not_same e = let l = ap length e in omega arith
 
 module _ (h : ℕ) (ps : List (List ℕ)) (w : Theory) where
   -- one letter

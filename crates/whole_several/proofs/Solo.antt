@@ -1,5 +1,5 @@
 -- One machine alone, in calm: it comes to lead, and then what is proposed is decided and applied at once.
-use Rattle.std.proofs.Common.{◌≡◌, ℕ, ◌+◌, ◌-◌, ◌<◌, ◌≤◌, Bool, true, not, ◌&&◌, eqb, leb, ◌≢◌, List, [], ◌∷◌, ◌++◌, length, get_or, sym, refl, ap, ◌∙◌, subst, inl, inr, arith}
+use Rattle.std.proofs.Common.{◌≡◌, ℕ, ◌+◌, ◌-◌, ◌<◌, ◌≤◌, Bool, true, ◌&&◌, eqb, leb, ◌≢◌, List, [], ◌∷◌, ◌++◌, length, get_or, sym, refl, ap, ◌∙◌, subst, inl, inr, arith}
 use mathlib.Core.Option.{some}
 use Rattle.std.proofs.lemmas.List.{length_push, get_or_push}
 use Rattle.std.proofs.lemmas.Bool.{le-leb, eq-eqb, and_parts, and_from, cases_Bool, cases_eq, false≢true}
@@ -17,7 +17,7 @@ use Rattle.machine.proofs.Alone.{own_proposed, alone_proposal}
 use Rattle.machine.proofs.Counts.{counts}
 use Rattle.machine.proofs.Steps.{runs_trans, decided_up}
 use Rattle.join_several.specs.Stands.{conf, RoleStands, Stands}
-use Rattle.together.specs.House.{or, every, any, same, propose, Applied, Far, got_to, far_after, nth_value, by_order}
+use Rattle.together.specs.House.{every, any, same, propose, Applied, Far, got_to, far_after, nth_value, by_order}
 use Rattle.together.specs.Promise.{last_since, are_bytes, said, Ran, runs, Machine, machine_at, set_machine, World, world, Flown, says, to_whom, event_for, before, thing_ran, rounds, all_got, most_applied, proposing, Takes, Calm}
 use Rattle.together_several.specs.Entry.{own}
 use Rattle.whole_several.proofs.Joined.{Joined}
@@ -32,6 +32,7 @@ use Rattle.whole_several.proofs.Worlds.{Good}
 use Rattle.whole_several.proofs.Rounds.{rests_since, decided_all, alone, Lives, rests, model_up, within_log, most_of_one, leader_since, order_within, waits}
 use Rattle.whole_several.proofs.Proposed.{leader_takes}
 use Rattle.whole.proofs.Orders.{up_alone, one_machine}
+use Rattle.whole.proofs.Orders.{got_alone}
 
 -- WHAT WAS APPLIED LAST was applied as the order has it
 module _ (ps : List (List ℕ)) (o : List ℕ) (k : ℕ) (v : List ℕ) (is : nth_value ps (get_or o (k - 1) 0) ≡ v) where
@@ -172,10 +173,7 @@ module _ (ps : List (List ℕ)) (fs : List Flown) (k : ℕ) (x : Machine) (ds : 
 module _ (ps : List (List ℕ)) (fs : List Flown) where
   -- what any ever got to, a leader has applied since its start
   leader_got : (k : ℕ) (x : Machine) (ds : List Applied) (w : Theory) (o : List ℕ) (i : ℕ) → Lives ps fs k x ds w → Leads (w.memory 0) → i ≤ length w.order → all_got (alone ps fs x o ds) i ≡ true
-  unfolding every
-  leader_got k x ds w o i z l b =
-      and_from (or (not x.up) (leb i (last_since x.how_it_got.since))) true
-      (rw z.up (le-leb i (last_since x.how_it_got.since) (omega (arith, leader_since ps fs k x ds w z l, order_within ps fs k x ds w z)))) refl
+  leader_got k x ds w o i z l b = got_alone x fs ps o ds i (omega (arith, leader_since ps fs k x ds w z l, order_within ps fs k x ds w z))
 
   calm_lone : (k : ℕ) (x : Machine) (o : List ℕ) (ds : List Applied) (w : Theory) → k ≤ 4294967296 → Joined 1 k (alone ps fs x o ds) w → Calm own (alone ps fs x o ds)
   unfolding Calm
