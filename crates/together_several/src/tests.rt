@@ -31,6 +31,11 @@ impl Lent {
         react::<Several>(&mut self.memory, event, &mut *self.out)
     }
 
+    // An event by its number.
+    fn numbered(&mut self, kind: u64, a: u64, b: u64, bytes: &[u8]) -> Told {
+        step(&mut *self.memory, kind, a, b, bytes, &mut *self.out)
+    }
+
     // An event whose acts are not looked at.
     fn passes(&mut self, event: Event<'_>) {
         let _first = self.told(event);
@@ -93,8 +98,26 @@ fn a_log_can_be_full(rt: HostRuntime) -> Result<(), Fail> {
         "one more than 4,096"
     );
     assert_eq!(rt; lent.told(Event::HowFar), Told::Shows(4096));
-    let told = step(&mut *lent.memory, 6, 0, 0, b"", &mut *lent.out);
-    assert_eq!(rt; told, Told::No(0), "no such kind");
+    assert_eq!(rt; lent.numbered(6, 0, 0, b""), Told::No(0), "no such kind");
+    Ok(())
+}
+
+#[test]
+fn events_by_their_numbers(rt: HostRuntime) -> Result<(), Fail> {
+    let mut lent = Lent::new(rt.alloc())?;
+    let _first = lent.numbered(0, 0, 1, b"");
+    lent.passes(Event::GoOn);
+    for _ in 0..10 {
+        let _first = lent.numbered(4, 0, 0, b"");
+        lent.passes(Event::GoOn);
+    }
+    assert_eq!(rt; lent.numbered(1, 0, 0, b"hello"), Told::Settle);
+    assert_eq!(rt; lent.numbered(5, 0, 0, b""), Told::Applies(1, 5));
+    assert_eq!(rt; lent.out[4], b'o');
+    assert_eq!(rt; lent.numbered(5, 0, 0, b""), Told::Done);
+    assert_eq!(rt; lent.numbered(3, 1, 0, b"no letter"), Told::Done);
+    assert_eq!(rt; lent.numbered(2, 0, 0, b""), Told::Shows(1));
+    assert_eq!(rt; lent.numbered(6, 0, 0, b""), Told::No(0), "no such kind");
     Ok(())
 }
 
