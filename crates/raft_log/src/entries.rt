@@ -60,10 +60,7 @@ fn row_of(memory: &Memory, index: Index) -> Option<usize>
 pub fn term(memory: &Memory, index: Index) -> Term
     ensures { result.0 ≡ term_at memory.now index.0 }
 {
-    match row_of(memory, index) {
-        Some(row) => Term(memory[row]),
-        None => Term(0),
-    }
+    row_of(memory, index).map_or(Term(0), |row| Term(memory[row]))
 }
 
 /// How many values stand up to an entry and with it.
@@ -72,10 +69,7 @@ pub fn number(memory: &Memory, index: Index) -> Number
     ensures is { result.0 ≡ number_at memory.now index.0 }
     ensures bounded { result.0 ≤ 4096 }
 {
-    match row_of(memory, index) {
-        Some(row) => Number(memory[row + 1].min(MAX_VALUES)),
-        None => Number(0),
-    }
+    row_of(memory, index).map_or(Number(0), |row| Number(memory[row + 1].min(MAX_VALUES)))
 }
 
 /// The term of the last entry; 0 of an empty log.
