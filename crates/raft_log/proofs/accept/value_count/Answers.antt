@@ -1,4 +1,3 @@
-use Rattle.std.proofs.Common.{arith}
 use Rattle.raft_log.proofs.TakeLaws.{counted_held}
 use Rattle.raft_log.proofs.accept.value_count.Goals as goal
 
