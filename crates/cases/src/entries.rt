@@ -1,6 +1,6 @@
 //! Entries as rows write them, `index:term` pairs split by blanks, as a log in memory and back.
 use crate::row::{RowError, parse_pair};
-use raft_log::entries::{append_value, last_index, number, term};
+use raft_log::entries::{append_value, last_index, slot, term};
 use raft_log::layout::{MAX_VALUE_BYTES, Memory};
 use raft_log::values::read_value;
 use raft_log::{Index, Term};
@@ -45,7 +45,7 @@ pub fn extent(entries: &str, name: &'static str) -> Result<(Index, usize), RowEr
 
 // Is the value of an entry this text?
 fn holds(memory: &Memory, index: Index, text: &str) -> bool {
-    let Some(slot) = number(memory, index).0.checked_sub(1) else {
+    let Some(slot) = slot(memory, index) else {
         return false;
     };
     let mut room = [0; MAX_BYTES];

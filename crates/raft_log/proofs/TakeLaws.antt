@@ -1,11 +1,12 @@
 -- Entries of a block that are put behind the last.
-use Rattle.std.proofs.Common.{◌≡◌, ℕ, zero, suc, ◌+◌, ◌-◌, ◌*◌, ◌<◌, ◌≤◌, true, ◌&&◌, ltb, leb, ◌≢◌, List, ◌∷◌, length, take, drop, sym, refl, ap, ◌∙◌, subst, arith}
+use Rattle.std.proofs.Common.{◌≡◌, ℕ, zero, suc, ◌+◌, ◌-◌, ◌*◌, ◌<◌, ◌≤◌, true, ◌&&◌, ltb, leb, ◌≢◌, List, ◌∷◌, length, take, drop, is_some, Some, None, Option as Maybe, Bor, sym, refl, ap, ◌∙◌, subst, arith}
 use mathlib.Core.Option.{Option, none, some}
+use mir.Val.{bool_byte}
 use Rattle.std.proofs.lemmas.List.{drop_more, drop_all, length-drop, length-take-le}
 use Rattle.std.proofs.lemmas.Bool.{leb-true, le-leb, lt-ltb, and_parts, and_from}
 use Rattle.raft_log.specs.Layout.{memory_words}
 use Rattle.raft_log.specs.Entries.{last_index, number_at, values, entry_pushed, value_fits, value_appended}
-use Rattle.raft_log.specs.Block.{Entry, row_length, value_offset, content_of, block_fits}
+use Rattle.raft_log.specs.Block.{Entry, Holds, row_length, value_offset, content_of, block_fits}
 use Rattle.raft_log.specs.View.{no_entry, entry_in, with_content, decisions}
 use Rattle.raft_log.specs.Accept.{truncated, content_taken, entry_taken, entries_taken, entries_fit}
 use Rattle.raft_log.proofs.LogLaws.{number_most}
@@ -150,11 +151,18 @@ module _ (es : List Entry) (i : ℕ) (less : i < length es) where
   unfolding decisions
   counted = ap (λ xs. length (decisions xs)) (drop_more es i no_entry less)
 
-  pub counted_none : (entry_in es i).content ≡ none → length (decisions (drop i es)) ≡ length (decisions (drop (i + 1) es))
+  counted_none : (entry_in es i).content ≡ none → length (decisions (drop i es)) ≡ length (decisions (drop (i + 1) es))
   counted_none e = counted ∙ ap (λ o. length (with_content o (decisions (drop (i + 1) es)))) e
 
-  pub counted_some : (v : List ℕ) → (entry_in es i).content ≡ some v → length (decisions (drop i es)) ≡ suc (length (decisions (drop (i + 1) es)))
+  counted_some : (v : List ℕ) → (entry_in es i).content ≡ some v → length (decisions (drop i es)) ≡ suc (length (decisions (drop (i + 1) es)))
   counted_some v e = counted ∙ ap (λ o. length (with_content o (decisions (drop (i + 1) es)))) e
+
+  -- one more where the entry holds a value
+  pub counted_held :
+      (held : Maybe (Bor (List ℕ))) → (elim held as (λ _. Type 0) [ Some v ↦ Holds (entry_in es i) (Some v.now) | None ↦ Holds (entry_in es i) None ])
+      → bool_byte (is_some held) + length (decisions (drop (i + 1) es)) ≡ length (decisions (drop i es))
+  counted_held (Some v) h = omega (arith, counted_some v.now h.0)
+  counted_held None h = omega (arith, counted_none h)
 
 pub counted_all : (es : List Entry) (i : ℕ) → length es ≤ i → length (decisions (drop i es)) ≡ 0
 unfolding decisions

@@ -104,6 +104,10 @@ abbrev pub log_content : List ℕ → ℕ → Option (List ℕ)
 log_content m i = cond (number_at m i == number_at m (i - 1)) none (some (value_at m (number_at m i - 1)))
 
 -- the slot of its value, if it has one
+unfoldable pub slot_of : List ℕ → ℕ → Maybe ℕ
+slot_of m i = cond (number_at m i == number_at m (i - 1)) None (Some (number_at m i - 1))
+
+-- the value stands in that slot
 abbrev pub SlotOf : List ℕ → ℕ → Maybe ℕ → Type 0
 SlotOf m i (Some k) = (log_content m i ≡ some (value_at m k)) × (k < 4096)
 SlotOf m i None = log_content m i ≡ none

@@ -62,10 +62,7 @@ fn value_count(block: &Block<'_>, i: usize) -> u64
     ensures is { result + length (decisions (drop (i + 1) block.now)) ≡ length (decisions (drop i block.now)) }
     ensures one { result ≤ 1 }
 {
-    match block.value(i) {
-        Some(_value) => 1,
-        None => 0,
-    }
+    u64::from(block.value(i).is_some())
 }
 
 // How many entries of a block from `start` on have a value.

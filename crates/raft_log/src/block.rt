@@ -75,24 +75,24 @@ impl<'a> Block<'a> {
     }
 }
 
-// The term of entry `i`.
-fn entry_term(block: &[u8], i: usize) -> Term
+/// The term of entry `i`.
+pub fn entry_term(block: &[u8], i: usize) -> Term
     requires { 10 * i + 10 ≤ length block.now }
     ensures { result.0 ≡ row_term block.now i }
 {
     Term(get_u64(block, ROW_BYTES * i))
 }
 
-// 0 for an empty entry, or else one more than its value's length.
-fn entry_code(block: &[u8], i: usize) -> u16
+/// 0 for an empty entry, or else one more than its value's length.
+pub fn entry_code(block: &[u8], i: usize) -> u16
     requires { 10 * i + 10 ≤ length block.now }
     ensures { result ≡ row_code block.now i }
 {
     u16::from_le_bytes(get(block, ROW_BYTES * i + CODE))
 }
 
-// How many bytes the value of entry `i` has.
-fn entry_length(block: &[u8], i: usize) -> usize
+/// How many bytes the value of entry `i` has.
+pub fn entry_length(block: &[u8], i: usize) -> usize
     requires { 10 * i + 10 ≤ length block.now }
     ensures is { result ≡ row_length block.now i }
     ensures short { result < 65536 }
@@ -100,8 +100,8 @@ fn entry_length(block: &[u8], i: usize) -> usize
     usize::from(entry_code(block, i).saturating_sub(1))
 }
 
-// Where the value of entry `i` begins, in a block of `count` entries.
-fn value_offset(block: &[u8], count: usize, i: usize) -> usize
+/// Where the value of entry `i` begins, in a block of `count` entries.
+pub fn value_offset(block: &[u8], count: usize, i: usize) -> usize
     requires { (count ≤ 15) × ((10 * count ≤ length block.now) × (i ≤ count)) }
     ensures is { result ≡ value_offset block.now count i }
     ensures within { block_fits block.now count ≡ true → i < count → result + row_length block.now i ≤ length block.now }

@@ -1,31 +1,20 @@
 //! Writes entries of the log in memory as a block.
 ghost use Rattle.std.specs.Prelude.{◌≡◌, ◌+◌, ◌*◌, ◌<◌, ◌≤◌, length};
 ghost use Rattle.raft_log.specs.Bytes.{laid};
-ghost use Rattle.raft_log.specs.Block.{content_code, content_bytes, row_bytes, table_bytes, values_bytes, block_bytes, log_content, SlotOf, log_entry, log_entries};
+ghost use Rattle.raft_log.specs.Block.{content_code, content_bytes, row_bytes, table_bytes, values_bytes, block_bytes, log_content, log_entry, log_entries};
 
 use super::Index;
 use super::block::ROW_BYTES;
 use super::bytes::{put, put_u64};
-use super::entries::{number, term};
+use super::entries::{slot, term};
 use super::layout::Memory;
 use super::values::{put_value, value_length};
-
-// The slot of an entry's value; an empty entry has none.
-fn slot_of(memory: &Memory, index: Index) -> Option<u64>
-    ensures { SlotOf memory.now index.0 result }
-{
-    let last = number(memory, index);
-    if last == number(memory, Index(index.0.saturating_sub(1))) {
-        return None;
-    }
-    Some(last.0.saturating_sub(1))
-}
 
 // 0 for an empty entry, or else one more than its value's length.
 fn content_code(memory: &Memory, index: Index) -> u16
     ensures { result ≡ content_code (log_content memory.now index.0) }
 {
-    match slot_of(memory, index) {
+    match slot(memory, index) {
         Some(slot) => value_length(memory, slot) as u16 + 1,
         None => 0,
     }
@@ -55,7 +44,7 @@ fn write_content(memory: &Memory, index: Index, out: &mut [u8], at: usize) -> us
     ensures short { result ≤ at + 256 }
     ensures put { out.new ≡ laid out.old at (content_bytes (log_content memory.now index.0)) }
 {
-    match slot_of(memory, index) {
+    match slot(memory, index) {
         Some(slot) => put_value(memory, slot, out, at),
         None => at,
     }

@@ -1,6 +1,7 @@
 //! The log in memory: a row for each entry, with its term and how many values stand up to it.
 ghost use Rattle.std.specs.Prelude.{◌≡◌, ℕ, ◌+◌, ◌-◌, ◌*◌, ◌<◌, ◌≤◌, true, false, cond, ◌&&◌, length, Some, None};
 ghost use Rattle.raft_log.specs.Layout.{entry_row};
+ghost use Rattle.raft_log.specs.Block.{SlotOf, slot_of};
 ghost use Rattle.raft_log.specs.Entries.{in_log, last_index, commit_index, applied_number, term_at, number_at, values, entry_put, entry_pushed, index, empty_place, value_appended, ValueAppended, EmptyAppended, commit_rises, commit_raised, applied_set};
 
 use super::layout::{
@@ -60,10 +61,7 @@ fn row_of(memory: &Memory, index: Index) -> Option<usize>
 pub fn term(memory: &Memory, index: Index) -> Term
     ensures { result.0 ≡ term_at memory.now index.0 }
 {
-    match row_of(memory, index) {
-        Some(row) => Term(memory[row]),
-        None => Term(0),
-    }
+    row_of(memory, index).map_or(Term(0), |row| Term(memory[row]))
 }
 
 /// How many values stand up to an entry and with it.
@@ -72,10 +70,20 @@ pub fn number(memory: &Memory, index: Index) -> Number
     ensures is { result.0 ≡ number_at memory.now index.0 }
     ensures bounded { result.0 ≤ 4096 }
 {
-    match row_of(memory, index) {
-        Some(row) => Number(memory[row + 1].min(MAX_VALUES)),
-        None => Number(0),
+    row_of(memory, index).map_or(Number(0), |row| Number(memory[row + 1].min(MAX_VALUES)))
+}
+
+/// The slot of an entry's value; an empty entry has none.
+#[tactic(auto, unfolding(crate::specs::Block::slot_of))]
+pub fn slot(memory: &Memory, index: Index) -> Option<u64>
+    ensures is { result ≡ slot_of memory.now index.0 }
+    ensures holds { SlotOf memory.now index.0 result }
+{
+    let last = number(memory, index);
+    if last == number(memory, Index(index.0.saturating_sub(1))) {
+        return None;
     }
+    Some(last.0.saturating_sub(1))
 }
 
 /// The term of the last entry; 0 of an empty log.
@@ -91,7 +99,7 @@ fn empty_place(memory: &Memory) -> Index
     ensures place { 1 ≤ result.0 }
 {
     let last = last_index(memory);
-    if last.0 >= 1 && number(memory, last) == number(memory, Index(last.0 - 1)) {
+    if last.0 >= 1 && slot(memory, last).is_none() {
         last
     } else {
         Index(last.0 + 1)

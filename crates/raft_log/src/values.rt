@@ -4,7 +4,7 @@ ghost use Rattle.raft_log.specs.Layout.{value_row};
 ghost use Rattle.raft_log.specs.Bytes.{eight, laid};
 ghost use Rattle.raft_log.specs.Values.{bytes_at, value_length, value_at, byte_or, word_of, value_put};
 
-use super::bytes::{get, put_u64};
+use super::bytes::{get_u64, put_u64};
 use super::layout::{MAX_VALUE_BYTES, Memory, VALUE_WORDS, VALUES};
 use std::array;
 
@@ -82,14 +82,6 @@ fn byte_or_zero(bytes: &[u8], i: usize) -> u8
     bytes.get(i).copied().unwrap_or(0)
 }
 
-// Eight bytes that are all there, as a word.
-fn whole_word(bytes: &[u8], j: usize) -> u64
-    requires { (j < 32) × (8 * j + 8 ≤ length bytes.now) }
-    ensures { result ≡ word_of bytes.now j }
-{
-    u64::from_le_bytes(get(bytes, 8 * j))
-}
-
 // Eight bytes as a word.
 fn word_of(bytes: &[u8], j: usize) -> u64
     requires { j < 32 }
@@ -107,7 +99,7 @@ pub fn write_value(memory: &mut Memory, slot: u64, bytes: &[u8])
     memory[row] = bytes.len() as u64;
     let whole = bytes.len() / 8;
     for j in 0..whole {
-        memory[row + 1 + j] = whole_word(bytes, j);
+        memory[row + 1 + j] = get_u64(bytes, 8 * j);
     }
     if bytes.len() % 8 > 0 {
         memory[row + 1 + whole] = word_of(bytes, whole);

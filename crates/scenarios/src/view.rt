@@ -3,8 +3,8 @@ use messages::Message;
 use messages::decoder::decode;
 use raft::header::{ClusterSize, Role, load};
 use raft::rows::{DUE, MATCHED, NEXT};
-use raft_log::entries::{committed, last_index, number, term};
-use raft_log::layout::{MAX_VALUES, Memory};
+use raft_log::entries::{committed, last_index, slot, term};
+use raft_log::layout::Memory;
 use raft_log::values::read_value;
 use raft_log::{Index, MachineId};
 use std::fmt;
@@ -87,11 +87,7 @@ fn role_text(role: Role) -> &'static str {
 
 // The value of an entry, put into `room`; an empty one has none.
 fn value<'a>(memory: &Memory, index: Index, room: &'a mut [u8; MAX_BYTES]) -> Option<&'a [u8]> {
-    let before = number(memory, Index(index.0.saturating_sub(1)));
-    if number(memory, index) == before || before.0 >= MAX_VALUES {
-        return None;
-    }
-    let long = read_value(memory, before.0, &mut *room);
+    let long = read_value(memory, slot(memory, index)?, &mut *room);
     room.get(..long)
 }
 

@@ -1,5 +1,5 @@
-use Rattle.std.proofs.Common.{◌≡◌, ◌+◌, ◌/◌, length, set, refl, arith}
-use Rattle.raft_log.specs.Values.{words_put, value_put, words_for}
+use Rattle.std.proofs.Common.{rules, ◌≡◌, ◌+◌, ◌/◌, length, set, refl, arith}
+use Rattle.raft_log.specs.Values.{word_of, words_put, value_put, words_for}
 use Rattle.raft_log.proofs.Rows.{words_put_more}
 use Rattle.raft_log.proofs.values.write_value.Goals as goal
 
@@ -9,6 +9,7 @@ loop-j-init c = refl
 
 pub loop-j-preserved : goal.loop-j-preserved
 loop-j-preserved c =
+    let word : c.get_u64.result ≡ word_of c.args.bytes.now c.loop-j.j = search rules in
     let e = words_put_more (set c.args.memory.now c.row_of-row.result (length c.args.bytes.now)) (c.row_of-row.result + 1) c.args.bytes.now c.loop-j.j in
     cc
 
