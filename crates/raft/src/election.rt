@@ -173,7 +173,7 @@ fn wins(memory: &Memory, machine: Machine<Role>, elapsed: Ticks) -> bool
 /// A candidate got a vote: with more than half it leads.
 #[tactic(auto, unfolding(crate::specs::Election::vote_taken))]
 pub(crate) fn take_vote(memory: &mut Memory, machine: Machine<Role>, elapsed: Ticks, from: Peer)
-    requires { (1 ≤ machine.size.0) × ((machine.size.0 ≤ 7)) }
+    requires { (1 ≤ machine.size.0) × (machine.size.0 ≤ 7) }
     ensures { memory.new ≡ vote_taken memory.old machine elapsed from.id.0 }
 {
     set_word(memory, VOTES, from, 1);

@@ -11,10 +11,11 @@ use raft_log::Index;
 use raft_log::entries::{committed, last_index};
 use raft_log::layout::Memory;
 
-fn after(index: u64) -> u64
-    ensures { result ≡ after index }
+// The index after this one, as far as there is one.
+fn after(index: Index) -> Index
+    ensures { result.0 ≡ after index.0 }
 {
-    index.saturating_add(1)
+    Index(index.0.saturating_add(1))
 }
 
 #[tactic(auto, unfolding(crate::specs::Progress::matched_raised))]
@@ -22,9 +23,9 @@ fn raise_matched(memory: &mut Memory, from: Peer, index: Index)
     ensures { memory.new ≡ matched_raised memory.old from.id.0 index.0 }
 {
     let has = index.max(matched(memory, from));
-    let next = after(has.0).max(next_index(memory, from).0);
+    let next = after(has).max(next_index(memory, from));
     set_word(memory, MATCHED, from, has.0);
-    set_word(memory, NEXT, from, next);
+    set_word(memory, NEXT, from, next.0);
 }
 
 // If commit rose all hear of it; else the one that answered gets what it lacks.
@@ -59,20 +60,15 @@ pub(crate) fn take_ack(memory: &mut Memory, machine: Machine<Role>, from: Peer, 
 fn rejects_next(memory: &Memory, from: Peer, rejected: Index) -> bool
     ensures { result ≡ rejects_next memory.now from.id.0 rejected.0 }
 {
-    next_index(memory, from).0 == after(rejected.0) && matched(memory, from) < rejected
+    next_index(memory, from) == after(rejected) && matched(memory, from) < rejected
 }
 
-fn next_below(memory: &Memory, from: Peer, rejected: Index, hint: Index) -> u64
+fn next_below(memory: &Memory, from: Peer, rejected: Index, hint: Index) -> Index
     requires { matched_at memory.now from.id.0 < rejected.0 }
-    ensures { result ≡ next_below memory.now from.id.0 rejected.0 hint.0 }
+    ensures { result.0 ≡ next_below memory.now from.id.0 rejected.0 hint.0 }
 {
-    let least = matched(memory, from).0 + 1;
-    let next = if hint < rejected {
-        hint.0 + 1
-    } else {
-        rejected.0
-    };
-    next.max(least)
+    let least = after(matched(memory, from));
+    rejected.min(after(hint)).max(least)
 }
 
 /// A machine has rejected an append behind an index, with a hint where to go on.
@@ -82,7 +78,7 @@ pub(crate) fn take_reject(memory: &mut Memory, from: Peer, rejected: Index, hint
 {
     if rejects_next(memory, from, rejected) {
         let next = next_below(memory, from, rejected, hint);
-        set_word(memory, NEXT, from, next);
+        set_word(memory, NEXT, from, next.0);
         say_to(memory, from.id, Due::Append);
     }
 }

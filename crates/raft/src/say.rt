@@ -21,7 +21,7 @@ pub enum Due {
 
 /// A word that stands for no letter.
 #[derive(Clone, Copy, Debug, PartialEq, Eq)]
-pub struct NothingDue(pub u64);
+pub struct NothingDue;
 
 impl From<Due> for u64 {
     ghost from_gives = { λ due word. word ≡ due_word due };
@@ -45,7 +45,7 @@ impl TryFrom<u64> for Due {
             5 => Ok(Due::Deny),
             6 => Ok(Due::Accept),
             7 => Ok(Due::Reject),
-            _ => Err(NothingDue(word)),
+            _ => Err(NothingDue),
         }
     }
 }
