@@ -5,7 +5,7 @@ ghost use Rattle.raft.specs.Progress.{after, matched_raised, spread, ack_taken, 
 
 use super::commit::maybe_commit;
 use super::header::{Machine, Role};
-use super::rows::{MATCHED, NEXT, Peer, matched, next_index, set_word};
+use super::rows::{Peer, Row, matched, next_index, set_word};
 use super::say::{Due, say_to, say_to_others};
 use raft_log::Index;
 use raft_log::entries::{committed, last_index};
@@ -24,8 +24,8 @@ fn raise_matched(memory: &mut Memory, from: Peer, index: Index)
 {
     let has = index.max(matched(memory, from));
     let next = after(has).max(next_index(memory, from));
-    set_word(memory, MATCHED, from, has.0);
-    set_word(memory, NEXT, from, next.0);
+    set_word(memory, Row::Matched, from, has.0);
+    set_word(memory, Row::Next, from, next.0);
 }
 
 // If commit rose all hear of it; else the one that answered gets what it lacks.
@@ -78,7 +78,7 @@ pub(crate) fn take_reject(memory: &mut Memory, from: Peer, rejected: Index, hint
 {
     if rejects_next(memory, from, rejected) {
         let next = next_below(memory, from, rejected, hint);
-        set_word(memory, NEXT, from, next.0);
+        set_word(memory, Row::Next, from, next.0);
         say_to(memory, from.id, Due::Append);
     }
 }

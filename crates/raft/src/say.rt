@@ -3,7 +3,7 @@ ghost use Rattle.std.specs.Prelude.{◌≡◌};
 ghost use Rattle.raft.specs.Say.{due_word, ReadsAs, said_to_others, said_to, answered};
 
 use super::header::{Machine, Role};
-use super::rows::{ANSWER, DUE, set_only, set_others};
+use super::rows::{ANSWER, Row, set_only, set_others};
 use raft_log::MachineId;
 use raft_log::layout::Memory;
 
@@ -55,7 +55,7 @@ impl TryFrom<u64> for Due {
 pub(crate) fn say_to_others(memory: &mut Memory, machine: Machine<Role>, due: Due)
     ensures { memory.new ≡ said_to_others memory.old machine due }
 {
-    set_others(memory, DUE, machine, u64::from(due));
+    set_others(memory, Row::Due, machine, u64::from(due));
 }
 
 /// A letter to one machine alone.
@@ -63,7 +63,7 @@ pub(crate) fn say_to_others(memory: &mut Memory, machine: Machine<Role>, due: Du
 pub(crate) fn say_to(memory: &mut Memory, to: MachineId, due: Due)
     ensures { memory.new ≡ said_to memory.old to.0 due }
 {
-    set_only(memory, DUE, to, u64::from(due));
+    set_only(memory, Row::Due, to, u64::from(due));
 }
 
 /// An answer to one machine, with the numbers that it carries.
