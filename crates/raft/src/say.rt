@@ -1,11 +1,11 @@
 //! Letters that are due: at most one to each machine, by its kind; the letter itself is made when it flies.
 ghost use Rattle.std.specs.Prelude.{◌≡◌};
-ghost use Rattle.raft.specs.Say.{due_word, ReadsAs, said_to_others, said_to, answered};
+ghost use Rattle.raft.specs.Say.{due_word, ReadsAs, said_to_others, said_to, answer_said};
 
 use super::header::{Machine, Role};
 use super::rows::{ANSWER, Row, set_only, set_others};
-use raft_log::MachineId;
 use raft_log::layout::Memory;
+use raft_log::{Index, MachineId};
 
 /// The kinds of letters, by the word that stands for each.
 #[derive(Clone, Copy, Debug, PartialEq, Eq)]
@@ -17,6 +17,15 @@ pub enum Due {
     Deny = 5,
     Accept = 6,
     Reject = 7,
+}
+
+/// What an append is answered.
+#[derive(Clone, Copy)]
+pub(crate) enum Answer {
+    /// The log agrees with the leader's up to an index.
+    Accepted(Index),
+    /// There is no entry at `prev` with the leader's term; `hint` is where the two may agree.
+    Rejected { prev: Index, hint: Index },
 }
 
 /// A word that stands for no letter.
@@ -68,10 +77,14 @@ pub(crate) fn say_to(memory: &mut Memory, to: MachineId, due: Due)
 
 /// An answer to one machine, with the numbers that it carries.
 #[tactic(auto, unfolding(crate::specs::Say::answered))]
-pub(crate) fn answer(memory: &mut Memory, to: MachineId, due: Due, first: u64, second: u64)
-    ensures { memory.new ≡ answered memory.old to.0 due first second }
+pub(crate) fn say_answer(memory: &mut Memory, to: MachineId, answer: Answer)
+    ensures { memory.new ≡ answer_said memory.old to.0 answer }
 {
+    let (due, first, second) = match answer {
+        Answer::Accepted(index) => (Due::Accept, index, Index(0)),
+        Answer::Rejected { prev, hint } => (Due::Reject, prev, hint),
+    };
     say_to(memory, to, due);
-    memory[ANSWER] = first;
-    memory[ANSWER + 1] = second;
+    memory[ANSWER] = first.0;
+    memory[ANSWER + 1] = second.0;
 }
