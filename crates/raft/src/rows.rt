@@ -88,7 +88,7 @@ pub(crate) fn vote_count(memory: &Memory, size: ClusterSize) -> u64
 }
 
 /// Are so many more than half?
-pub(crate) fn is_most(count: u64, size: ClusterSize) -> bool
+pub fn is_most(count: u64, size: ClusterSize) -> bool
     requires { count ≤ 7 }
     ensures { result ≡ most_of count size.0 }
 {
