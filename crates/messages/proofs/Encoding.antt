@@ -18,9 +18,6 @@ put_byte out o i k xs x e l h =
     let n : length o ≡ length out = ap length h ∙ length_laid out i xs (omega arith) in
     put_more out o (set o k x) i k xs (x ∷ []) e (omega arith) h (set_laid o k x (omega arith))
 
-pub first_byte : (out o₁ : List ℕ) (x : ℕ) (ys : List ℕ) → 1 ≤ length out → o₁ ≡ laid (set out 0 x) 1 ys → o₁ ≡ laid out 0 (x ∷ ys)
-first_byte out o₁ x ys l h = put_more out (set out 0 x) o₁ 0 1 (x ∷ []) ys refl l (set_laid out 0 x (omega arith)) h
-
 -- the letter stands at the front, and what is behind it is as before
 pub front : (out o bs : List ℕ) (n : ℕ) → n ≡ length bs → o ≡ laid out 0 bs → o ≡ bs ++ drop n out
 unfolding laid
@@ -49,10 +46,6 @@ length_numbers (n ∷ ns) (suc i) l = omega (arith, length-append (eight n) (fla
 pub numbers_more : (ns : List ℕ) (i : ℕ) → i < length ns → flat_map eight (take i ns) ++ eight (get_or ns i 0) ≡ flat_map eight (take (i + 1) ns)
 numbers_more ns i l =
     sym (ap (flat_map eight) (take_more ns i 0 l) ∙ flat_map-append eight (take i ns) (get_or ns i 0 ∷ []))
-
--- a byte at a place, given as what it stands for
-pub byte_put : (out : List ℕ) (i x y : ℕ) → i < length out → x ≡ y → set out i x ≡ laid out i (y ∷ [])
-byte_put out i x y l e = set_laid out i x l ∙ ap (λ z. laid out i (z ∷ [])) e
 
 -- what is told of a letter
 pub told : (l l₁ : Letter) (out o : List ℕ) (r : ℕ) → l₁ ≡ l → r ≡ length (letter_bytes l) → o ≡ laid out 0 (letter_bytes l) →

@@ -2,6 +2,7 @@
 ghost use Rattle.std.specs.Prelude.{◌≡◌, ◌+◌, ◌*◌, ◌≤◌, ◌∷◌, ◌++◌, length, drop};
 ghost use Rattle.std.specs.List.{flat_map};
 ghost use Rattle.raft_log.specs.Bytes.{eight, laid};
+ghost use Rattle.messages.specs.Kind.{kind_byte};
 ghost use Rattle.messages.specs.Letter.{letter_bytes};
 ghost use Rattle.messages.specs.Message.{letter_from, Sendable};
 
@@ -13,12 +14,12 @@ use raft_log::bytes::put_u64;
 use raft_log::layout::Memory;
 
 // A kind and the numbers behind it; says where they end.
-fn put_numbers<const N: usize>(out: &mut [u8], kind: u8, numbers: [u64; N]) -> usize
+fn put_numbers<const N: usize>(out: &mut [u8], kind: Kind, numbers: [u64; N]) -> usize
     requires { (4096 ≤ length out.old) × (N ≤ 4) }
     ensures end { result ≡ 1 + 8 * N }
-    ensures put { out.new ≡ laid out.old 0 (kind ∷ flat_map eight numbers.entry) }
+    ensures put { out.new ≡ laid out.old 0 (kind_byte kind ∷ flat_map eight numbers.entry) }
 {
-    out[0] = kind;
+    out[0] = kind as u8;
     for i in 0..N {
         put_u64(out, FIRST + 8 * i, numbers[i]);
     }
@@ -41,36 +42,28 @@ pub fn encode(message: Message<usize>, memory: &Memory, out: &mut [u8]) -> usize
             entries,
         } => {
             let numbers = [term.0, prev_index.0, prev_term.0, commit.0];
-            put_numbers(out, Kind::Append as u8, numbers);
+            put_numbers(out, Kind::Append, numbers);
             out[COUNT_AT] = entries as u8;
             write_block(memory, Index(prev_index.0 + 1), entries, out, BLOCK_AT)
         }
         Message::AppendResponse { term, index } => {
-            put_numbers(out, Kind::AppendResponse as u8, [term.0, index.0])
+            put_numbers(out, Kind::AppendResponse, [term.0, index.0])
         }
         Message::AppendReject {
             term,
             prev_index,
             hint,
-        } => put_numbers(
-            out,
-            Kind::AppendReject as u8,
-            [term.0, prev_index.0, hint.0],
-        ),
+        } => put_numbers(out, Kind::AppendReject, [term.0, prev_index.0, hint.0]),
         Message::RequestVote {
             term,
             last_index,
             last_term,
-        } => put_numbers(
-            out,
-            Kind::RequestVote as u8,
-            [term.0, last_index.0, last_term.0],
-        ),
+        } => put_numbers(out, Kind::RequestVote, [term.0, last_index.0, last_term.0]),
         Message::RequestVoteResponse { term, granted } => {
-            put_numbers(out, Kind::RequestVoteResponse as u8, [term.0]);
+            put_numbers(out, Kind::RequestVoteResponse, [term.0]);
             out[SECOND] = u8::from(granted);
             SECOND + 1
         }
-        Message::TermNotice { term } => put_numbers(out, Kind::TermNotice as u8, [term.0]),
+        Message::TermNotice { term } => put_numbers(out, Kind::TermNotice, [term.0]),
     }
 }

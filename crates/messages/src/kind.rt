@@ -13,7 +13,7 @@ pub(crate) enum Kind {
 
 /// A byte that is no kind of letter.
 #[derive(Clone, Copy, Debug, PartialEq, Eq)]
-pub(crate) struct UnknownKind(pub u8);
+pub(crate) struct UnknownKind;
 
 impl TryFrom<u8> for Kind {
     type Error = UnknownKind;
@@ -28,7 +28,7 @@ impl TryFrom<u8> for Kind {
             4 => Ok(Kind::RequestVote),
             5 => Ok(Kind::RequestVoteResponse),
             6 => Ok(Kind::TermNotice),
-            _ => Err(UnknownKind(byte)),
+            _ => Err(UnknownKind),
         }
     }
 }

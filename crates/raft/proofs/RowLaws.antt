@@ -2,7 +2,16 @@
 use Rattle.std.proofs.Common.{◌≡◌, ℕ, zero, suc, ◌+◌, ◌-◌, ◌<◌, ◌≤◌, ◌≢◌, List, length, get_or, sym, refl, ap, ◌∙◌, inl, inr, arith}
 use Rattle.std.proofs.lemmas.List.{length-set, get_or-set_same, get_or-set_other, ext_get_or}
 use Rattle.std.proofs.lemmas.Bool.{cases_eq, cases_lt}
-use Rattle.raft.specs.Rows.{row_put, row_set, SetBy}
+use Rattle.raft.specs.declared.rows.Row.{Row}
+use Rattle.raft.specs.declared.rows.Row.TheVariants.{Votes, Matched, Next, Due}
+use Rattle.raft.specs.Rows.{row_at, row_put, row_set, SetBy}
+
+-- each row has its seven words in memory
+pub within : (row : Row) → row_at row ≤ 57
+within Votes = omega arith
+within Matched = omega arith
+within Next = omega arith
+within Due = omega arith
 
 pub length_row_put : (m : List ℕ) (base : ℕ) (f : ℕ → ℕ) (n : ℕ) → length (row_put m base f n) ≡ length m
 unfolding row_put

@@ -1,8 +1,17 @@
 -- Rows of seven words, one for each machine: who voted, what each has acknowledged, what it is sent next, and which letter is due to it.
 use Rattle.std.specs.Prelude.{◌≡◌, ℕ, zero, suc, ◌+◌, ◌*◌, ◌<◌, ◌≢◌, Bool, cond, not, ◌&&◌, List, length, take, drop, count_by, ◌==◌, nat_eq, nat_lt, slice_index, slice_set}
 use Rattle.tracker.specs.Majority.{reached}
+use Rattle.raft.specs.declared.rows.Row.{Row}
+use Rattle.raft.specs.declared.rows.Row.TheVariants.{Votes, Matched, Next, Due}
 use Rattle.raft.specs.declared.header.Role.{Role}
 use Rattle.raft.specs.declared.header.Machine.{Machine}
+
+-- where a row begins
+abbrev pub row_at : Row → ℕ
+row_at Votes = 8
+row_at Matched = 15
+row_at Next = 22
+row_at Due = 29
 
 -- the first n words of the row at base set to f 0, f 1 ..
 unfoldable pub row_put : List ℕ → ℕ → (ℕ → ℕ) → ℕ → List ℕ

@@ -6,6 +6,8 @@ use Rattle.raft.specs.declared.header.Machine.{Machine}
 use Rattle.raft.specs.declared.say.Due.{Due}
 use Rattle.raft.specs.declared.say.NothingDue.{NothingDue}
 use Rattle.raft.specs.declared.say.Due.TheVariants.{Append, RequestVote, TellTerm, Grant, Deny, Accept, Reject}
+use Rattle.raft.specs.declared.say.Answer.{Answer}
+use Rattle.raft.specs.declared.say.Answer.TheVariants.{Accepted, Rejected}
 use Rattle.raft.specs.Rows.{row_set, only, others}
 
 -- the word of a kind; 0 where nothing is due
@@ -39,3 +41,7 @@ said_to m j d = row_set m 29 (only j (due_word d))
 -- an answer to machine j, with the numbers that it carries
 unfoldable pub answered : List ℕ → ℕ → Due → ℕ → ℕ → List ℕ
 answered m j d a b = slice_set (slice_set (said_to m j d) 36 a) 37 b
+
+abbrev pub answer_said : List ℕ → ℕ → Answer → List ℕ
+answer_said m j (Accepted i) = answered m j Accept i.0 0
+answer_said m j (Rejected p h) = answered m j Reject p.0 h.0

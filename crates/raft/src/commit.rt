@@ -14,10 +14,9 @@ pub(crate) fn quorum_index(memory: &Memory, size: ClusterSize) -> Index
     requires { (1 ≤ size.0) × (size.0 ≤ 7) }
     ensures { result.0 ≡ quorum_index memory.now size.0 }
 {
-    match committed_index(&memory[MATCHED..MATCHED + size.0 as usize]) {
-        Some(index) => index.min(last_index(memory)),
-        None => Index(0),
-    }
+    let matched = &memory[MATCHED..MATCHED + size.0 as usize];
+    let index = committed_index(matched).unwrap_or(Index(0));
+    index.min(last_index(memory))
 }
 
 /// Commit rises to what more than half have, if the entry there is of this term.

@@ -4,7 +4,7 @@ ghost use Rattle.raft.specs.Election.{owner, rows_begun, led, stood, campaigned,
 
 use super::commit::maybe_commit;
 use super::header::{ELECTION_TICKS, Machine, Role, Ticks, load, store};
-use super::rows::{MATCHED, NEXT, Peer, VOTES, is_most, set_all, set_only, set_word, vote_count};
+use super::rows::{Peer, Row, is_most, set_all, set_only, set_word, vote_count};
 use super::say::{Due, say_to, say_to_others};
 use raft_log::entries::append_empty;
 use raft_log::layout::Memory;
@@ -27,8 +27,8 @@ impl Machine<Role> {
 fn begin_rows(memory: &mut Memory, id: MachineId, last: Index)
     ensures { memory.new ≡ rows_begun memory.old id.0 last.0 }
 {
-    set_only(memory, MATCHED, id, last.0);
-    set_all(memory, NEXT, last.0);
+    set_only(memory, Row::Matched, id, last.0);
+    set_all(memory, Row::Next, last.0);
 }
 
 #[tactic(auto, unfolding(crate::specs::Election::led, crate::specs::Election::led_with_room))]
@@ -54,7 +54,7 @@ fn stand(memory: &mut Memory, machine: Machine<Role>, term: Term)
     ensures { memory.new ≡ stood memory.old machine term.0 }
 {
     store(memory, machine.in_term(term, Role::Candidate(Ticks(0))));
-    set_only(memory, VOTES, machine.id, 1);
+    set_only(memory, Row::Votes, machine.id, 1);
     say_to_others(memory, machine, Due::RequestVote);
 }
 
@@ -173,10 +173,10 @@ fn wins(memory: &Memory, machine: Machine<Role>, elapsed: Ticks) -> bool
 /// A candidate got a vote: with more than half it leads.
 #[tactic(auto, unfolding(crate::specs::Election::vote_taken))]
 pub(crate) fn take_vote(memory: &mut Memory, machine: Machine<Role>, elapsed: Ticks, from: Peer)
-    requires { (1 ≤ machine.size.0) × ((machine.size.0 ≤ 7)) }
+    requires { (1 ≤ machine.size.0) × (machine.size.0 ≤ 7) }
     ensures { memory.new ≡ vote_taken memory.old machine elapsed from.id.0 }
 {
-    set_word(memory, VOTES, from, 1);
+    set_word(memory, Row::Votes, from, 1);
     if wins(memory, machine, elapsed) {
         lead(memory, machine, machine.term);
     }

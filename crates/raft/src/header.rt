@@ -40,11 +40,7 @@ impl Ticks {
     pub fn older(self) -> Ticks
         ensures { result ≡ older self }
     {
-        Ticks(if self.0 < ELECTION_TICKS {
-            self.0 + 1
-        } else {
-            ELECTION_TICKS
-        })
+        Ticks(self.0.saturating_add(1).min(ELECTION_TICKS))
     }
 }
 

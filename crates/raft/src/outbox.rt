@@ -7,7 +7,7 @@ ghost use Rattle.raft.specs.Header.{loaded};
 ghost use Rattle.raft.specs.Outbox.{due_to, prev_of, letter_made, FirstDue, flown_to, Flew};
 
 use super::header::{MAX_SIZE, Machine, Role};
-use super::rows::{ANSWER, DUE, Peer, next_index, set_word, word};
+use super::rows::{ANSWER, Peer, Row, next_index, set_word, word};
 use super::say::Due;
 use messages::Message;
 use messages::encoder::encode;
@@ -35,7 +35,7 @@ pub struct Sent {
 fn due_to(memory: &Memory, to: Peer) -> Option<Due>
     ensures { result ≡ due_to memory.now to.id.0 }
 {
-    Due::try_from(word(memory, DUE, to)).ok()
+    Due::try_from(word(memory, Row::Due, to)).ok()
 }
 
 // The index that an append goes behind.
@@ -121,7 +121,7 @@ fn first_due(memory: &Memory) -> Option<Next>
 fn forget_due(memory: &mut Memory, to: Peer)
     ensures { memory.new ≡ flown_to memory.old to.id.0 }
 {
-    set_word(memory, DUE, to, 0);
+    set_word(memory, Row::Due, to, 0);
 }
 
 /// The first letter that is due flies: its bytes are put at the front of `out`. If none is due, nothing is changed.

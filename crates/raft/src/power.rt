@@ -3,7 +3,7 @@ ghost use Rattle.std.specs.Prelude.{◌≡◌};
 ghost use Rattle.raft.specs.Power.{belongs, restarted, powered};
 
 use super::header::{ClusterSize, MAX_SIZE, Machine, Role, Ticks, load, store};
-use super::rows::{DUE, set_all};
+use super::rows::{Row, set_all};
 use raft_log::entries::{applied, set_applied};
 use raft_log::layout::Memory;
 use raft_log::{MachineId, Number};
@@ -42,6 +42,6 @@ pub fn power(memory: &mut Memory, id: MachineId, size: ClusterSize)
         let machine = load(memory).restarted(id, size, role);
         store(memory, machine);
         set_applied(memory, before);
-        set_all(memory, DUE, 0);
+        set_all(memory, Row::Due, 0);
     }
 }

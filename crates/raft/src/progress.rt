@@ -1,30 +1,25 @@
 //! What a leader makes of the answers to its appends.
 ghost use Rattle.std.specs.Prelude.{◌≡◌, ◌+◌, ◌<◌, ◌≤◌};
 ghost use Rattle.raft.specs.Rows.{matched_at};
-ghost use Rattle.raft.specs.Progress.{after, matched_raised, spread, ack_taken, next_below, rejects_next, reject_taken};
+ghost use Rattle.raft.specs.Progress.{matched_raised, spread, ack_taken, next_below, rejects_next, reject_taken};
 
 use super::commit::maybe_commit;
 use super::header::{Machine, Role};
-use super::rows::{MATCHED, NEXT, Peer, matched, next_index, set_word};
+use super::rows::{Peer, Row, matched, next_index, set_word};
 use super::say::{Due, say_to, say_to_others};
 use raft_log::Index;
 use raft_log::entries::{committed, last_index};
 use raft_log::layout::Memory;
-
-fn after(index: u64) -> u64
-    ensures { result ≡ after index }
-{
-    index.saturating_add(1)
-}
+use tracker::progress::index_after;
 
 #[tactic(auto, unfolding(crate::specs::Progress::matched_raised))]
 fn raise_matched(memory: &mut Memory, from: Peer, index: Index)
     ensures { memory.new ≡ matched_raised memory.old from.id.0 index.0 }
 {
     let has = index.max(matched(memory, from));
-    let next = after(has.0).max(next_index(memory, from).0);
-    set_word(memory, MATCHED, from, has.0);
-    set_word(memory, NEXT, from, next);
+    let next = index_after(has).max(next_index(memory, from));
+    set_word(memory, Row::Matched, from, has.0);
+    set_word(memory, Row::Next, from, next.0);
 }
 
 // If commit rose all hear of it; else the one that answered gets what it lacks.
@@ -59,20 +54,15 @@ pub(crate) fn take_ack(memory: &mut Memory, machine: Machine<Role>, from: Peer, 
 fn rejects_next(memory: &Memory, from: Peer, rejected: Index) -> bool
     ensures { result ≡ rejects_next memory.now from.id.0 rejected.0 }
 {
-    next_index(memory, from).0 == after(rejected.0) && matched(memory, from) < rejected
+    next_index(memory, from) == index_after(rejected) && matched(memory, from) < rejected
 }
 
-fn next_below(memory: &Memory, from: Peer, rejected: Index, hint: Index) -> u64
+fn next_below(memory: &Memory, from: Peer, rejected: Index, hint: Index) -> Index
     requires { matched_at memory.now from.id.0 < rejected.0 }
-    ensures { result ≡ next_below memory.now from.id.0 rejected.0 hint.0 }
+    ensures { result.0 ≡ next_below memory.now from.id.0 rejected.0 hint.0 }
 {
-    let least = matched(memory, from).0 + 1;
-    let next = if hint < rejected {
-        hint.0 + 1
-    } else {
-        rejected.0
-    };
-    next.max(least)
+    let least = index_after(matched(memory, from));
+    rejected.min(index_after(hint)).max(least)
 }
 
 /// A machine has rejected an append behind an index, with a hint where to go on.
@@ -82,7 +72,7 @@ pub(crate) fn take_reject(memory: &mut Memory, from: Peer, rejected: Index, hint
 {
     if rejects_next(memory, from, rejected) {
         let next = next_below(memory, from, rejected, hint);
-        set_word(memory, NEXT, from, next);
+        set_word(memory, Row::Next, from, next.0);
         say_to(memory, from.id, Due::Append);
     }
 }

@@ -4,7 +4,7 @@ ghost use Rattle.raft.specs.Proposal.{refusal_number, with_unsettled, Proposed};
 
 use super::commit::maybe_commit;
 use super::header::{Machine, Role, load, store};
-use super::rows::{MATCHED, Peer, set_word};
+use super::rows::{Peer, Row, set_word};
 use super::say::{Due, say_to_others};
 use raft_log::entries::append_value;
 use raft_log::layout::{MAX_VALUE_BYTES, Memory};
@@ -53,7 +53,7 @@ pub fn propose(memory: &mut Memory, bytes: &[u8]) -> Result<(), Refusal>
         return Err(Refusal::NotNow);
     }
     let index = append_value(memory, machine.term, bytes).ok_or(Refusal::Full)?;
-    set_word(memory, MATCHED, Peer { id: machine.id }, index.0);
+    set_word(memory, Row::Matched, Peer { id: machine.id }, index.0);
     maybe_commit(memory, machine.size, machine.term);
     store(memory, machine.with_unsettled());
     say_to_others(memory, machine, Due::Append);

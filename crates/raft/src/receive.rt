@@ -11,7 +11,7 @@ use super::election::{enter_term, take_vote};
 use super::header::{Machine, Role, Ticks, load, store};
 use super::progress::{take_ack, take_reject};
 use super::rows::Peer;
-use super::say::{Due, answer, say_to};
+use super::say::{Answer, Due, say_answer, say_to};
 use messages::Message;
 use messages::decoder::decode;
 use raft_log::accept::{Append, maybe_append};
@@ -60,11 +60,15 @@ fn take_append(memory: &mut Memory, machine: Machine<Role>, from: Peer, append: 
     match maybe_append(memory, append) {
         Ok(index) => {
             store(memory, machine.heard_from(changes));
-            answer(memory, from.id, Due::Accept, index.0, 0);
+            say_answer(memory, from.id, Answer::Accepted(index));
         }
         Err(refused) => {
             store(memory, machine.heard_from(false));
-            answer(memory, from.id, Due::Reject, append.prev.0, refused.hint.0);
+            let answer = Answer::Rejected {
+                prev: append.prev,
+                hint: refused.hint,
+            };
+            say_answer(memory, from.id, answer);
         }
     }
 }

@@ -1,18 +1,36 @@
 //! Rows of seven words, one for each machine: who voted, what each has acknowledged, what it is sent next, and which letter is due to it.
 ghost use Rattle.std.specs.Prelude.{◌≡◌, ℕ, ◌+◌, ◌<◌, ◌≤◌, length, count_by, nat_eq, slice_index, slice_set};
-ghost use Rattle.raft.specs.Rows.{row_set, only, others, SetBy, vote_count, matched_at, next_at, most_of};
+ghost use Rattle.raft.specs.Rows.{row_at, row_set, only, others, SetBy, vote_count, matched_at, next_at, most_of};
 
 use super::header::{ClusterSize, Machine, Role};
 use raft_log::layout::Memory;
 use raft_log::{Index, MachineId};
 
-pub const VOTES: usize = 8;
+/// The rows, by where they begin.
+#[derive(Clone, Copy)]
+pub(crate) enum Row {
+    Votes = 8,
+    Matched = 15,
+    Next = 22,
+    Due = 29,
+}
 
-pub const MATCHED: usize = 15;
+impl Row {
+    fn at(self) -> usize
+        ensures is { result ≡ row_at self }
+        ensures within { result ≤ 57 }
+    {
+        self as usize
+    }
+}
 
-pub const NEXT: usize = 22;
+pub const VOTES: usize = Row::Votes as usize;
 
-pub const DUE: usize = 29;
+pub const MATCHED: usize = Row::Matched as usize;
+
+pub const NEXT: usize = Row::Next as usize;
+
+pub const DUE: usize = Row::Due as usize;
 /// The numbers that an answer carries.
 pub const ANSWER: usize = 36;
 
@@ -26,28 +44,26 @@ pub(crate) struct Peer {
 }
 
 // Sets each word of a row to what a function says of its machine.
-fn set_row<F: Fn(u64) -> u64>(memory: &mut Memory, row: usize, word: F)
-    requires within { row ≤ 57 }
-    requires total { F.IsAlwaysCallable word }
-    ensures { SetBy memory.old row (F.post word) memory.new }
+fn set_row<F: Fn(u64) -> u64>(memory: &mut Memory, row: Row, word: F)
+    requires { F.IsAlwaysCallable word }
+    ensures { SetBy memory.old (row_at row) (F.post word) memory.new }
 {
+    let first = row.at();
     for j in 0..ROW_WORDS {
-        memory[row + j] = word(j as u64);
+        memory[first + j] = word(j as u64);
     }
 }
 
 /// Sets a row to a word for one machine, and 0 for the others.
-pub(crate) fn set_only(memory: &mut Memory, row: usize, machine: MachineId, word: u64)
-    requires { row ≤ 57 }
-    ensures { memory.new ≡ row_set memory.old row (only machine.0 word) }
+pub(crate) fn set_only(memory: &mut Memory, row: Row, machine: MachineId, word: u64)
+    ensures { memory.new ≡ row_set memory.old (row_at row) (only machine.0 word) }
 {
     set_row(memory, row, |j| if j == machine.0 { word } else { 0 });
 }
 
 /// Sets a row to a word for each machine of the cluster but this one, and 0 for it and beyond.
-pub(crate) fn set_others(memory: &mut Memory, row: usize, machine: Machine<Role>, word: u64)
-    requires { row ≤ 57 }
-    ensures { memory.new ≡ row_set memory.old row (others machine word) }
+pub(crate) fn set_others(memory: &mut Memory, row: Row, machine: Machine<Role>, word: u64)
+    ensures { memory.new ≡ row_set memory.old (row_at row) (others machine word) }
 {
     let size = machine.size.0;
     let own = machine.id.0;
@@ -55,9 +71,8 @@ pub(crate) fn set_others(memory: &mut Memory, row: usize, machine: Machine<Role>
 }
 
 /// Sets a row to one word.
-pub(crate) fn set_all(memory: &mut Memory, row: usize, word: u64)
-    requires { row ≤ 57 }
-    ensures { memory.new ≡ row_set memory.old row (λ _. word) }
+pub(crate) fn set_all(memory: &mut Memory, row: Row, word: u64)
+    ensures { memory.new ≡ row_set memory.old (row_at row) (λ _. word) }
 {
     set_row(memory, row, |_| word);
 }
@@ -73,7 +88,7 @@ pub(crate) fn vote_count(memory: &Memory, size: ClusterSize) -> u64
 }
 
 /// Are so many more than half?
-pub(crate) fn is_most(count: u64, size: ClusterSize) -> bool
+pub fn is_most(count: u64, size: ClusterSize) -> bool
     requires { count ≤ 7 }
     ensures { result ≡ most_of count size.0 }
 {
@@ -81,31 +96,29 @@ pub(crate) fn is_most(count: u64, size: ClusterSize) -> bool
 }
 
 /// The word of a machine in a row.
-pub(crate) fn word(memory: &Memory, row: usize, machine: Peer) -> u64
-    requires { row ≤ 57 }
-    ensures { result ≡ slice_index memory.now (row + machine.id.0) }
+pub(crate) fn word(memory: &Memory, row: Row, machine: Peer) -> u64
+    ensures { result ≡ slice_index memory.now (row_at row + machine.id.0) }
 {
-    memory[row + machine.id.0 as usize]
+    memory[row.at() + machine.id.0 as usize]
 }
 
 /// Sets the word of a machine in a row.
-pub(crate) fn set_word(memory: &mut Memory, row: usize, machine: Peer, word: u64)
-    requires { row ≤ 57 }
-    ensures { memory.new ≡ slice_set memory.old (row + machine.id.0) word }
+pub(crate) fn set_word(memory: &mut Memory, row: Row, machine: Peer, word: u64)
+    ensures { memory.new ≡ slice_set memory.old (row_at row + machine.id.0) word }
 {
-    memory[row + machine.id.0 as usize] = word;
+    memory[row.at() + machine.id.0 as usize] = word;
 }
 
 /// What a machine has acknowledged.
 pub(crate) fn matched(memory: &Memory, machine: Peer) -> Index
     ensures { result.0 ≡ matched_at memory.now machine.id.0 }
 {
-    Index(word(memory, MATCHED, machine))
+    Index(word(memory, Row::Matched, machine))
 }
 
 /// The index that a machine is sent next.
 pub(crate) fn next_index(memory: &Memory, machine: Peer) -> Index
     ensures { result.0 ≡ next_at memory.now machine.id.0 }
 {
-    Index(word(memory, NEXT, machine))
+    Index(word(memory, Row::Next, machine))
 }

@@ -1,20 +1,13 @@
 //! A tick: one that hears from no leader goes to the next term, and stands there if the term is its own.
 ghost use Rattle.std.specs.Prelude.{◌≡◌, ◌≤◌};
-ghost use Rattle.raft.specs.Rows.{most_of};
 ghost use Rattle.solo.specs.Election.{led, campaigned, term_entered, next_term_entered, waited, ticked};
 
 use super::header::{Role, load, store};
-use raft::header::{ClusterSize, ELECTION_TICKS, Machine, Ticks};
+use raft::header::{ELECTION_TICKS, Machine, Ticks};
+use raft::rows::is_most;
 use raft_log::Term;
 use raft_log::entries::{append_empty, commit_to};
 use raft_log::layout::Memory;
-
-// Is one vote more than half?
-pub fn one_is_most(size: ClusterSize) -> bool
-    ensures { result ≡ most_of 1 size.0 }
-{
-    size.0 < 2
-}
 
 #[tactic(auto, unfolding(crate::specs::Election::led))]
 fn lead(memory: &mut Memory, machine: Machine<Role>, term: Term)
@@ -32,7 +25,7 @@ fn lead(memory: &mut Memory, machine: Machine<Role>, term: Term)
 fn campaign(memory: &mut Memory, machine: Machine<Role>, term: Term)
     ensures { memory.new ≡ campaigned memory.old machine term.0 }
 {
-    if one_is_most(machine.size) {
+    if is_most(1, machine.size) {
         lead(memory, machine, term);
     } else {
         store(memory, machine.in_term(term, Role::Candidate(Ticks(0))));

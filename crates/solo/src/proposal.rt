@@ -2,10 +2,10 @@
 ghost use Rattle.std.specs.Prelude.{◌≡◌, Ok, Err};
 ghost use Rattle.solo.specs.Proposal.{own_acked, Proposed};
 
-use super::election::one_is_most;
 use super::header::{Role, load, store};
 use raft::header::Machine;
 use raft::proposal::Refusal;
+use raft::rows::is_most;
 use raft_log::Index;
 use raft_log::entries::{append_value, commit_to};
 use raft_log::layout::{MAX_VALUE_BYTES, Memory};
@@ -15,7 +15,7 @@ use raft_log::layout::{MAX_VALUE_BYTES, Memory};
 fn own_ack(memory: &mut Memory, machine: Machine<Role>, index: Index)
     ensures { memory.new ≡ own_acked memory.old machine index.0 }
 {
-    if one_is_most(machine.size) {
+    if is_most(1, machine.size) {
         commit_to(memory, index);
     }
 }

@@ -19,8 +19,8 @@ pub struct Progress {
     pub state: ProgressState,
 }
 
-// The index after this one, as far as there is one.
-fn index_after(at: Index) -> Index
+/// The index after this one, as far as there is one.
+pub fn index_after(at: Index) -> Index
     ensures { result ≡ index (after at.0) }
 {
     Index(at.0.saturating_add(1))

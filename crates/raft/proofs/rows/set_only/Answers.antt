@@ -1,10 +1,10 @@
 use Rattle.std.proofs.Common.{arith, rules}
-use Rattle.raft.specs.Rows.{only}
-use Rattle.raft.proofs.RowLaws.{row_is}
+use Rattle.raft.specs.Rows.{row_at, only}
+use Rattle.raft.proofs.RowLaws.{within, row_is}
 use Rattle.raft.proofs.rows.set_only.Goals as goal
 
 pub returns : goal.returns
 returns c =
     let e = c.set_row.ensures in
-    row_is c.args.memory.now c.set_row.new.memory c.args.row (only c.args.machine.0 c.args.word) (omega arith)
+    row_is c.args.memory.now c.set_row.new.memory (row_at c.args.row) (only c.args.machine.0 c.args.word) (omega (arith, within c.args.row))
     (record { long = e.long; said = λ j l. let w = e.said j l in search rules; kept = e.kept })
