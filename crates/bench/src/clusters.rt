@@ -67,6 +67,7 @@ pub struct Machine {
     id: MachineId,
     pub memory: Box<Memory>,
     out: Box<[u8; MAX_LETTER_BYTES]>,
+    // The number of the value that it applied last.
     applied: u64,
 }
 
@@ -99,7 +100,7 @@ impl Machine {
                     let letter = self.out.get(..long as usize).unwrap_or(b"");
                     post.put(self.id, MachineId(to), letter)?;
                 }
-                Told::Applies(_, _) => self.applied = self.applied.saturating_add(1),
+                Told::Applies(number, _) => self.applied = number,
                 Told::Settle => {}
                 Told::Shows(_) | Told::Done | Told::No(_) => return Ok(()),
             }
