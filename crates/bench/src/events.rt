@@ -9,13 +9,12 @@ use raft::rows::{MATCHED, NEXT};
 use raft_log::layout::{APPLIED, COMMITTED, LAST_INDEX, MEMORY_WORDS};
 use raft_log::{Index, MachineId, Term};
 use std::alloc::{AllocError, Global};
-use std::iter;
 use together::Told;
 use together::engine::Event;
 
 const OPERATIONS: u64 = 1000;
 
-const MAX_ACTS: usize = 100;
+const MAX_ACTS: u64 = 100;
 // Who acknowledges.
 const FOLLOWER: usize = 2;
 
@@ -87,15 +86,18 @@ impl Reaction {
     }
 
     // How many letters flew.
-    fn letters(&mut self) -> usize {
-        let first = self.leader.told(self.kind.event(&self.letter));
-        let acts = iter::successors(Some(first), |told| match told {
-            Told::Shows(_) | Told::Done | Told::No(_) => None,
-            _ => Some(self.leader.told(Event::GoOn)),
-        });
-        acts.take(MAX_ACTS)
-            .filter(|told| matches!(told, Told::Flies(_, _)))
-            .count()
+    fn letters(&mut self) -> u64 {
+        let mut told = self.leader.told(self.kind.event(&self.letter));
+        let mut letters = 0u64;
+        for _ in 0..MAX_ACTS {
+            match told {
+                Told::Flies(_, _) => letters = letters.saturating_add(1),
+                Told::Applies(_, _) | Told::Settle => {}
+                Told::Shows(_) | Told::Done | Told::No(_) => return letters,
+            }
+            told = self.leader.told(Event::GoOn);
+        }
+        letters
     }
 
     // Before an acknowledgement nobody has the last entry, so it is not decided.
