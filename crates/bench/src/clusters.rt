@@ -1,4 +1,5 @@
 //! Clusters in one process: letters as bytes from one machine to another, nothing on disk. They elect machine 1 % size and decide values of 16 bytes.
+use crate::VALUE;
 use crate::timing::Work;
 use raft::header::ClusterSize;
 use raft_log::MachineId;
@@ -8,8 +9,6 @@ use std::mem;
 use together::Told;
 use together::engine::{Event, MAX_LETTER_BYTES, react};
 use together_several::several::Several;
-
-const VALUE: [u8; 16] = [7; 16];
 
 const DECISIONS: u64 = 4000;
 // Till the owner of term 1 stands.
@@ -68,6 +67,7 @@ pub struct Machine {
     id: MachineId,
     pub memory: Box<Memory>,
     out: Box<[u8; MAX_LETTER_BYTES]>,
+    // The number of the value that it applied last.
     applied: u64,
 }
 
@@ -100,7 +100,7 @@ impl Machine {
                     let letter = self.out.get(..long as usize).unwrap_or(b"");
                     post.put(self.id, MachineId(to), letter)?;
                 }
-                Told::Applies(_, _) => self.applied = self.applied.saturating_add(1),
+                Told::Applies(number, _) => self.applied = number,
                 Told::Settle => {}
                 Told::Shows(_) | Told::Done | Told::No(_) => return Ok(()),
             }
@@ -164,6 +164,7 @@ impl Cluster {
     // The letters of a round come to their machines.
     fn hand_over(&mut self) -> Result<(), AllocError> {
         let round = &self.coming;
+        self.letters = self.letters.saturating_add(round.heads.len() as u64);
         for head in round.heads.iter() {
             let event = Event::Letter {
                 from: head.from,
@@ -172,7 +173,6 @@ impl Cluster {
             if let Some(machine) = self.machines.get_mut(head.to.0 as usize) {
                 machine.event(&mut self.flying, event)?;
             }
-            self.letters = self.letters.saturating_add(1);
         }
         Ok(())
     }

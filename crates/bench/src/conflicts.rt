@@ -1,7 +1,9 @@
 //! Where a long log and the blocks of another part: they agree up to the last block, and differ at its first entry.
 ghost use Rattle.std.specs.Prelude.{◌≤◌};
 
+use crate::VALUE;
 use crate::timing::Work;
+use messages::MAX_LETTER_BYTES;
 use raft_log::block::{Block, MAX_BLOCK_ENTRIES};
 use raft_log::block_writer::write_block;
 use raft_log::conflict::{find_conflict, find_conflict_by_term};
@@ -17,10 +19,6 @@ const AGREEING: u64 = 7995;
 const BLOCKS: u64 = 534;
 
 const BLOCK_ENTRIES: u64 = MAX_BLOCK_ENTRIES as u64;
-
-const BLOCK_ROOM: usize = 4096;
-
-const VALUE: [u8; 16] = [7; 16];
 
 // A log of entries with a value and empty ones in turn, as many as agree of term 1.
 fn log(heap: Global, entries: u64, rest: Term) -> Result<Box<Memory>, AllocError> {
@@ -49,7 +47,7 @@ impl Placed {
     fn new(heap: Global, memory: &Memory, prev: Index) -> Result<Placed, AllocError>
         requires { prev.0 ≤ 8193 }
     {
-        let mut bytes = vec![in heap; 0; BLOCK_ROOM]?;
+        let mut bytes = vec![in heap; 0; MAX_LETTER_BYTES]?;
         let first = Index(prev.0 + 1);
         let end = write_block(memory, first, MAX_BLOCK_ENTRIES, &mut bytes, 0);
         bytes.truncate(end);

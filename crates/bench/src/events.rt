@@ -1,4 +1,5 @@
 //! What one event costs the leader of three, with all its acts, at a short log and at a long one. After each the memory is set back, so that every event finds the same.
+use crate::VALUE;
 use crate::clusters::{Cluster, Machine};
 use crate::timing::Work;
 use anyhow::Context;
@@ -10,8 +11,6 @@ use raft_log::{Index, MachineId, Term};
 use std::alloc::{AllocError, Global};
 use together::Told;
 use together::engine::Event;
-
-const VALUE: [u8; 16] = [7; 16];
 
 const OPERATIONS: u64 = 1000;
 

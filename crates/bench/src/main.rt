@@ -20,6 +20,9 @@ use letters::{Copying, Decode, Encode, Take};
 use std::env;
 use timing::report;
 
+// What is proposed, or put into a log, where its length does not matter.
+const VALUE: [u8; 16] = [7; 16];
+
 fn time_values(rt: &HostRuntime) -> anyhow::Result<()> {
     for (append, read, bytes) in [
         ("append an entry of 16 bytes", "read back 16 bytes", 16),

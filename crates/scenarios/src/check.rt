@@ -64,43 +64,26 @@ impl Check {
     }
 }
 
-/// Counts scenarios, and prints a line for each.
-#[derive(Default, Drop)]
-pub struct Report {
-    scenarios: u64,
-    as_expected: u64,
+// Plays a scenario and prints its line: is it as expected?
+fn is_as_expected(rt: &(impl Print + AllocGlobal), script: &Script) -> anyhow::Result<bool> {
+    let id = script.id;
+    let check = play(rt.alloc(), script)?;
+    let differences = check.differences();
+    if differences.is_empty() {
+        println!(rt; "{id} ok")?;
+    } else {
+        println!(rt; "{id} differs{differences}")?;
+    }
+    Ok(differences.is_empty())
 }
 
-impl Report {
-    fn line(&mut self, rt: &impl Print, id: &str, differences: &str) -> anyhow::Result<()> {
-        self.scenarios = self.scenarios.saturating_add(1);
-        if differences.is_empty() {
-            self.as_expected = self.as_expected.saturating_add(1);
-            println!(rt; "{id} ok")?;
-        } else {
-            println!(rt; "{id} differs{differences}")?;
-        }
-        Ok(())
-    }
-
-    /// Plays scenarios, one after the other.
-    pub fn play(
-        &mut self,
-        rt: &(impl Print + AllocGlobal),
-        scripts: &[Script],
-    ) -> anyhow::Result<()> {
-        for script in scripts {
-            let check = play(rt.alloc(), script)?;
-            self.line(rt, script.id, check.differences())?;
-        }
-        Ok(())
-    }
-
-    pub fn summary(&self, rt: &impl Print) -> anyhow::Result<()> {
-        println!(rt;
-            "{} scenarios, {} as expected",
-            self.scenarios, self.as_expected
-        )?;
-        Ok(())
-    }
+/// Plays scenarios, one after the other, prints a line for each, and how many are as expected.
+pub fn report(rt: &(impl Print + AllocGlobal), scripts: &[&[Script]]) -> anyhow::Result<()> {
+    let scripts = scripts.iter().copied().flatten();
+    let outcomes = scripts
+        .map(|script| is_as_expected(rt, script))
+        .try_collect::<Vec<bool>>(rt.alloc())?;
+    let as_expected = outcomes.iter().filter(|outcome| **outcome).count();
+    println!(rt; "{} scenarios, {as_expected} as expected", outcomes.len())?;
+    Ok(())
 }

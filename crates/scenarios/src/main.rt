@@ -14,21 +14,18 @@ mod setup;
 mod view;
 mod votes;
 
-use check::Report;
-use script::Script;
+use check::report;
 
 fn main(rt: HostRuntime) -> anyhow::Result<()> {
-    let all: [&[Script]; 6] = [
-        &elections::SCRIPTS,
-        &votes::SCRIPTS,
-        &replication::SCRIPTS,
-        &appends::SCRIPTS,
-        &commits::SCRIPTS,
-        &restarts::SCRIPTS,
-    ];
-    let mut report = Report::default();
-    for scripts in all {
-        report.play(&rt, scripts)?;
-    }
-    report.summary(&rt)
+    report(
+        &rt,
+        &[
+            &elections::SCRIPTS,
+            &votes::SCRIPTS,
+            &replication::SCRIPTS,
+            &appends::SCRIPTS,
+            &commits::SCRIPTS,
+            &restarts::SCRIPTS,
+        ],
+    )
 }

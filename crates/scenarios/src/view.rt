@@ -4,12 +4,12 @@ use messages::decoder::decode;
 use raft::header::{ClusterSize, Role, load};
 use raft::rows::{DUE, MATCHED, NEXT};
 use raft_log::entries::{committed, last_index, slot, term};
-use raft_log::layout::Memory;
+use raft_log::layout::{MAX_VALUE_BYTES, Memory};
 use raft_log::values::read_value;
 use raft_log::{Index, MachineId};
 use std::fmt;
 
-const MAX_BYTES: usize = 256;
+const MAX_BYTES: usize = MAX_VALUE_BYTES as usize;
 
 /// Upstream's number of a machine: they count from 1, and the last is the one that is 0 here.
 pub fn name(id: MachineId, size: ClusterSize) -> u64 {
