@@ -1,9 +1,9 @@
 -- What the messages of the code stand for.
-use Rattle.std.specs.Prelude.{◌≡◌, ℕ, ◌+◌, ◌^◌, ◌<◌, ◌≤◌, List, Some, None, Option as Maybe}
+use Rattle.std.specs.Prelude.{◌≡◌, ℕ, ◌+◌, ◌*◌, ◌^◌, ◌<◌, ◌≤◌, List, length, slice_index, Some, None, Option as Maybe}
 use Rattle.std.proofs.Math.Option.{Option, none, some}
 use Rattle.messages.specs.declared.Message.{Message}
 use Rattle.messages.specs.declared.Message.TheVariants.{Append, AppendResponse, AppendReject, RequestVote, RequestVoteResponse, TermNotice}
-use Rattle.raft_log.specs.Bytes.{Words}
+use Rattle.raft_log.specs.Bytes.{Words, word_at}
 use Rattle.raft_log.specs.Block.{Entry, log_entries}
 use Rattle.messages.specs.Letter.{Letter, append, append_response, append_reject, request_vote, request_vote_response, term_notice, letter_bytes, letter_of}
 
@@ -28,6 +28,11 @@ letter_from m = letter_with (λ p n. log_entries m (p + 1) n)
 abbrev pub Gives : Option Letter → Maybe (Message (List Entry)) → Type 0
 Gives l (Some r) = l ≡ some (letter_in r)
 Gives l None = l ≡ none
+
+-- the first n numbers behind the kind, of bytes that are just as long
+abbrev pub NumbersIn : List ℕ → ℕ → Maybe (List ℕ) → Type 0
+NumbersIn bs n (Some ws) = (length bs ≡ 1 + 8 * n) × ((i : ℕ) → i < n → slice_index ws i ≡ word_at bs (1 + 8 * i))
+NumbersIn bs n None = length bs ≡ 1 + 8 * n → ⊥
 
 -- the entries of an append are at most 15, behind a place of the log
 abbrev pub Sendable : Message ℕ → Type 0

@@ -1,12 +1,25 @@
 //! Letters from bytes. What is no letter is refused.
+ghost use Rattle.std.specs.Prelude.{◌≤◌};
 ghost use Rattle.messages.specs.Letter.{append_of, append_response_of, append_reject_of, request_vote_of, request_vote_response_of, term_notice_of, letter_of};
-ghost use Rattle.messages.specs.Message.{Gives};
+ghost use Rattle.messages.specs.Message.{Gives, NumbersIn};
 
 use super::kind::Kind;
 use super::{BLOCK_AT, COUNT_AT, FIRST, FOURTH, Message, SECOND, THIRD};
 use raft_log::block::Block;
 use raft_log::bytes::get_u64;
 use raft_log::{Index, Term};
+use std::array;
+
+// The numbers behind the kind, where a letter has just so many and nothing else.
+fn numbers<const N: usize>(bytes: &[u8]) -> Option<[u64; N]>
+    requires { N ≤ 3 }
+    ensures { NumbersIn bytes.now N result }
+{
+    if bytes.len() != FIRST + 8 * N {
+        return None;
+    }
+    Some(array::from_fn(|i| get_u64(bytes, FIRST + 8 * i)))
+}
 
 fn append(bytes: &[u8]) -> Option<Message<Block<'_>>>
     ensures { Gives (append_of bytes.now) result }
@@ -27,38 +40,32 @@ fn append(bytes: &[u8]) -> Option<Message<Block<'_>>>
 fn append_response(bytes: &[u8]) -> Option<Message<Block<'_>>>
     ensures { Gives (append_response_of bytes.now) result }
 {
-    if bytes.len() != THIRD {
-        return None;
-    }
+    let [term, index] = numbers::<2>(bytes)?;
     Some(Message::AppendResponse {
-        term: Term(get_u64(bytes, FIRST)),
-        index: Index(get_u64(bytes, SECOND)),
+        term: Term(term),
+        index: Index(index),
     })
 }
 
 fn append_reject(bytes: &[u8]) -> Option<Message<Block<'_>>>
     ensures { Gives (append_reject_of bytes.now) result }
 {
-    if bytes.len() != FOURTH {
-        return None;
-    }
+    let [term, prev_index, hint] = numbers::<3>(bytes)?;
     Some(Message::AppendReject {
-        term: Term(get_u64(bytes, FIRST)),
-        prev_index: Index(get_u64(bytes, SECOND)),
-        hint: Index(get_u64(bytes, THIRD)),
+        term: Term(term),
+        prev_index: Index(prev_index),
+        hint: Index(hint),
     })
 }
 
 fn request_vote(bytes: &[u8]) -> Option<Message<Block<'_>>>
     ensures { Gives (request_vote_of bytes.now) result }
 {
-    if bytes.len() != FOURTH {
-        return None;
-    }
+    let [term, last_index, last_term] = numbers::<3>(bytes)?;
     Some(Message::RequestVote {
-        term: Term(get_u64(bytes, FIRST)),
-        last_index: Index(get_u64(bytes, SECOND)),
-        last_term: Term(get_u64(bytes, THIRD)),
+        term: Term(term),
+        last_index: Index(last_index),
+        last_term: Term(last_term),
     })
 }
 
@@ -77,12 +84,8 @@ fn request_vote_response(bytes: &[u8]) -> Option<Message<Block<'_>>>
 fn term_notice(bytes: &[u8]) -> Option<Message<Block<'_>>>
     ensures { Gives (term_notice_of bytes.now) result }
 {
-    if bytes.len() != SECOND {
-        return None;
-    }
-    Some(Message::TermNotice {
-        term: Term(get_u64(bytes, FIRST)),
-    })
+    let [term] = numbers::<1>(bytes)?;
+    Some(Message::TermNotice { term: Term(term) })
 }
 
 /// The letter that these bytes are; `None` where they are none.
