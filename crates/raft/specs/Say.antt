@@ -42,6 +42,7 @@ said_to m j d = row_set m 29 (only j (due_word d))
 unfoldable pub answered : List ℕ → ℕ → Due → ℕ → ℕ → List ℕ
 answered m j d a b = slice_set (slice_set (said_to m j d) 36 a) 37 b
 
+-- what an append is answered
 abbrev pub answer_said : List ℕ → ℕ → Answer → List ℕ
 answer_said m j (Accepted i) = answered m j Accept i.0 0
 answer_said m j (Rejected p h) = answered m j Reject p.0 h.0
