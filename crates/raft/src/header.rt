@@ -134,7 +134,7 @@ fn size_of(word: u64) -> u64
     ensures some { 1 ≤ result }
     ensures few { result ≤ 7 }
 {
-    word.max(1).min(MAX_SIZE)
+    word.clamp(1, MAX_SIZE)
 }
 
 pub fn load(memory: &Memory) -> Machine<Role>
