@@ -9,6 +9,7 @@ mod net;
 mod node;
 mod replication;
 mod restarts;
+mod rounds;
 mod script;
 mod setup;
 mod view;
@@ -22,6 +23,7 @@ fn main(rt: HostRuntime) -> anyhow::Result<()> {
         &[
             &elections::SCRIPTS,
             &votes::SCRIPTS,
+            &rounds::SCRIPTS,
             &replication::SCRIPTS,
             &appends::SCRIPTS,
             &commits::SCRIPTS,
