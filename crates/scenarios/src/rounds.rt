@@ -1,6 +1,8 @@
 //! An election in one round: votes that come, votes that are asked for, votes that are given.
 use crate::script::Script;
-use crate::script::Step::{Alone, Append, Ask, Deny, Did, Forget, Is, Log, Stand, Tick, Vote, Waits};
+use crate::script::Step::{
+    Alone, Append, Ask, Deny, Did, Forget, Is, Log, Stand, Tick, Vote, Waits,
+};
 
 pub static SCRIPTS: [Script; 24] = [
     Script {
