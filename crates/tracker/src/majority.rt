@@ -1,6 +1,6 @@
 //! What more than half of the voters have.
 ghost use Rattle.std.specs.Prelude.{◌≡◌, ◌≤◌, length};
-ghost use Rattle.tracker.specs.Majority.{quorum_has, CommittedSays, vote_result};
+ghost use Rattle.tracker.specs.Majority.{quorum_has, better, CommittedSays, vote_result};
 
 use raft_log::Index;
 
@@ -30,6 +30,18 @@ fn quorum_has(indices: &[u64], index: u64) -> bool
     reached > indices.len() / 2
 }
 
+// The larger of the best so far and `index`, if more than half have that. They are counted only where it would be larger.
+fn better(indices: &[u64], best: Option<u64>, index: u64) -> Option<u64>
+    requires { length indices.now ≤ 1024 }
+    ensures { result ≡ better indices.now best index }
+{
+    if best.is_none_or(|best| best < index) && quorum_has(indices, index) {
+        Some(index)
+    } else {
+        best
+    }
+}
+
 /// The largest index that more than half have; none for none of them, or for more than 1,024.
 #[tactic(auto, unfolding(crate::specs::Majority::CommittedSays))]
 pub fn committed_index(indices: &[u64]) -> Option<Index>
@@ -41,8 +53,7 @@ pub fn committed_index(indices: &[u64]) -> Option<Index>
     indices
         .iter()
         .copied()
-        .filter(|index| quorum_has(indices, *index))
-        .max()
+        .fold(None, |best, index| better(indices, best, index))
         .map(Index)
 }
 
