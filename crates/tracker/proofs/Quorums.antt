@@ -30,7 +30,7 @@ reached_rises [] (y ∷ ys) k h = absurd h
 reached_rises (x ∷ xs) [] k h = absurd h
 reached_rises (x ∷ xs) (y ∷ ys) k h = let up : x ≤ y = h.0 in grind (arith, nat_tests, reached_cons k x xs, reached_cons k y ys, reached_rises xs ys k h.1)
 
-reached_all : (js : List ℕ) → reached js 0 ≡ length js
+pub reached_all : (js : List ℕ) → reached js 0 ≡ length js
 reached_all [] = reached_of_none 0
 reached_all (j ∷ js) = grind (arith, nat_tests, reached_cons 0 j js, reached_all js)
 
