@@ -3,7 +3,7 @@ ghost use Rattle.std.specs.Prelude.{◌≤◌, length};
 
 use crate::memory::memory_of;
 use crate::timing::Work;
-use messages::decoder::decode;
+use messages::decoder::read;
 use messages::encoder::encode;
 use messages::{MAX_LETTER_BYTES, Message};
 use raft_log::accept::{Append, maybe_append};
@@ -99,7 +99,7 @@ impl Work for Encode {
 
 // Are these bytes an append with all its entries, of one of the terms in use?
 fn is_append(bytes: &[u8]) -> bool {
-    match decode(bytes) {
+    match read(bytes) {
         Some(Message::Append { term, entries, .. }) => {
             term < Term(LETTERS) && entries.len() == MAX_BLOCK_ENTRIES
         }
@@ -197,7 +197,7 @@ fn append_of(letter: &[u8]) -> Option<Append<'_>> {
     if letter.len() != LETTER_BYTES {
         return None;
     }
-    match decode(letter)? {
+    match read(letter)? {
         Message::Append {
             prev_index,
             prev_term,

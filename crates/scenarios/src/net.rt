@@ -3,7 +3,7 @@ use crate::node::{Letter, Node};
 use crate::setup::{Offer, append_letter, letter};
 use anyhow::{Context, bail};
 use messages::Message;
-use messages::decoder::decode;
+use messages::decoder::read;
 use raft::header::{ClusterSize, Machine, Role, load};
 use raft_log::MachineId;
 use std::alloc::Global;
@@ -27,7 +27,7 @@ pub struct Net {
 }
 
 fn is_append(letter: &Letter) -> bool {
-    matches!(decode(&letter.bytes), Some(Message::Append { .. }))
+    matches!(read(&letter.bytes), Some(Message::Append { .. }))
 }
 
 // Is its term its own?

@@ -3,7 +3,7 @@ use Rattle.std.proofs.Common.{◌≡◌, get_or, length, subst, rules}
 use Rattle.messages.specs.Kind.{Decodes}
 use Rattle.messages.specs.Letter.{letter_of, append_of, append_response_of, append_reject_of, request_vote_of, request_vote_response_of, term_notice_of}
 use Rattle.messages.proofs.Decoding.{gives, kind_1, kind_2, kind_3, kind_4, kind_5, kind_6, empty_none, no_kind}
-use Rattle.messages.proofs.decoder.decode.Goals as goal
+use Rattle.messages.proofs.decoder.read.Goals as goal
 
 pub returns-in_err-first : goal.returns-in_err-first
 returns-in_err-first c =
