@@ -14,9 +14,8 @@ abbrev pub quorum_has : List ℕ → ℕ → Bool
 quorum_has indices k = nat_lt (length indices) (2 * reached indices k)
 
 -- the larger of the best so far and k, if more than half have that
-abbrev pub better : List ℕ → Option ℕ → ℕ → Option ℕ
-better indices None k = cond (quorum_has indices k) (Some k) None
-better indices (Some b) k = cond (nat_lt b k && quorum_has indices k) (Some k) (Some b)
+abbrev pub better : List ℕ → ℕ → ℕ → ℕ
+better indices best k = cond (nat_lt best k && quorum_has indices k) k best
 
 -- more than half of them have
 abbrev pub Quorum : List ℕ → ℕ → Type 0

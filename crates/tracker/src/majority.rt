@@ -31,12 +31,12 @@ fn quorum_has(indices: &[u64], index: u64) -> bool
 }
 
 // The larger of the best so far and `index`, if more than half have that. They are counted only where it would be larger.
-fn better(indices: &[u64], best: Option<u64>, index: u64) -> Option<u64>
+fn better(indices: &[u64], best: u64, index: u64) -> u64
     requires { length indices.now ≤ 1024 }
     ensures { result ≡ better indices.now best index }
 {
-    if best.is_none_or(|best| best < index) && quorum_has(indices, index) {
-        Some(index)
+    if best < index && quorum_has(indices, index) {
+        index
     } else {
         best
     }
@@ -47,14 +47,14 @@ fn better(indices: &[u64], best: Option<u64>, index: u64) -> Option<u64>
 pub fn committed_index(indices: &[u64]) -> Option<Index>
     ensures { CommittedSays indices.now result }
 {
-    if indices.len() > MOST_VOTERS {
+    if indices.is_empty() || indices.len() > MOST_VOTERS {
         return None;
     }
-    indices
+    let best = indices
         .iter()
         .copied()
-        .fold(None, |best, index| better(indices, best, index))
-        .map(Index)
+        .fold(0, |best, index| better(indices, best, index));
+    Some(Index(best))
 }
 
 /// How the vote of `size` voters stands, of whom so many granted and so many refused.
