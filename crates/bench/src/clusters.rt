@@ -3,12 +3,11 @@ use crate::VALUE;
 use crate::timing::Work;
 use raft::header::ClusterSize;
 use raft_log::MachineId;
-use raft_log::layout::{MEMORY_WORDS, Memory};
 use std::alloc::{AllocError, Global};
 use std::mem;
 use together::Told;
-use together::engine::{Event, MAX_LETTER_BYTES, react};
-use together_several::several::Several;
+use together::engine::{Event, MAX_LETTER_BYTES};
+use together_several::{MEMORY_WORDS, step_event};
 
 const DECISIONS: u64 = 4000;
 // Till the owner of term 1 stands.
@@ -65,30 +64,35 @@ impl Post {
 #[derive(Drop)]
 pub struct Machine {
     id: MachineId,
-    pub memory: Box<Memory>,
-    out: Box<[u8; MAX_LETTER_BYTES]>,
-    // The number of the value that it applied last.
-    applied: u64,
+    pub memory: Vec<u64>,
+    out: Vec<u8>,
+    // The number of the value that it applied last; none once one came out of turn.
+    applied: Option<u64>,
 }
 
 impl Machine {
     fn new(heap: Global, id: MachineId) -> Result<Machine, AllocError> {
         Ok(Machine {
             id,
-            memory: Box::new(heap, [0; MEMORY_WORDS])?,
-            out: Box::new(heap, [0; MAX_LETTER_BYTES])?,
-            applied: 0,
+            memory: vec![in heap; 0; MEMORY_WORDS]?,
+            out: vec![in heap; 0; MAX_LETTER_BYTES]?,
+            applied: Some(0),
         })
     }
 
     fn forget(&mut self) {
         self.memory.fill(0);
-        self.applied = 0;
+        self.applied = Some(0);
+    }
+
+    fn note_applied(&mut self, number: u64) {
+        let next = self.applied.map(|last| last.saturating_add(1));
+        self.applied = next.filter(|next| *next == number);
     }
 
     /// The first act of an event.
     pub fn told(&mut self, event: Event<'_>) -> Told {
-        react::<Several>(&mut self.memory, event, &mut *self.out)
+        step_event(&mut self.memory, event, &mut self.out)
     }
 
     // An event, with all its acts; nothing is kept at a settle, as there is no disk.
@@ -100,7 +104,7 @@ impl Machine {
                     let letter = self.out.get(..long as usize).unwrap_or(b"");
                     post.put(self.id, MachineId(to), letter)?;
                 }
-                Told::Applies(number, _) => self.applied = number,
+                Told::Applies(number, _) => self.note_applied(number),
                 Told::Settle => {}
                 Told::Shows(_) | Told::Done | Told::No(_) => return Ok(()),
             }
@@ -220,9 +224,10 @@ impl Cluster {
         self.deliver()
     }
 
-    /// How many decisions the machine that has fewest has applied.
+    /// How many decisions the machine that has fewest has applied, all in turn.
     pub fn fewest_applied(&self) -> u64 {
-        let applied = self.machines.iter().map(|machine| machine.applied);
+        let machines = self.machines.iter();
+        let applied = machines.map(|machine| machine.applied.unwrap_or(0));
         applied.min().unwrap_or(0)
     }
 }

@@ -2,6 +2,7 @@
 ghost use Rattle.std.specs.Prelude.{◌≤◌};
 
 use crate::VALUE;
+use crate::memory::memory_of;
 use crate::timing::Work;
 use messages::MAX_LETTER_BYTES;
 use raft_log::block::{Block, MAX_BLOCK_ENTRIES};
@@ -21,17 +22,18 @@ const BLOCKS: u64 = 534;
 const BLOCK_ENTRIES: u64 = MAX_BLOCK_ENTRIES as u64;
 
 // A log of entries with a value and empty ones in turn, as many as agree of term 1.
-fn log(heap: Global, entries: u64, rest: Term) -> Result<Box<Memory>, AllocError> {
-    let mut memory = Box::new(heap, [0; MEMORY_WORDS])?;
+fn log(heap: Global, entries: u64, rest: Term) -> anyhow::Result<Vec<u64>> {
+    let mut words = vec![in heap; 0; MEMORY_WORDS]?;
+    let memory = memory_of(&mut words)?;
     for i in 0..entries {
         let term = if i < AGREEING { Term(1) } else { rest };
         let _ = if i % 2 == 0 {
-            append_value(&mut memory, term, &VALUE)
+            append_value(memory, term, &VALUE)
         } else {
-            append_empty(&mut memory, term)
+            append_empty(memory, term)
         };
     }
-    Ok(memory)
+    Ok(words)
 }
 
 // A block as bytes, and the index that it comes behind.
@@ -63,15 +65,16 @@ impl Placed {
 
 #[derive(Drop)]
 pub struct Conflict {
-    memory: Box<Memory>,
+    memory: Vec<u64>,
     blocks: Vec<Placed>,
 }
 
 impl Conflict {
     /// The blocks are those of a log that is of term 1 throughout.
-    pub fn new(heap: Global) -> Result<Conflict, AllocError> {
-        let other = log(heap, BLOCKS * BLOCK_ENTRIES, Term(1))?;
-        let blocks = (0..BLOCKS).map(|i| Placed::new(heap, &other, Index(i * BLOCK_ENTRIES)));
+    pub fn new(heap: Global) -> anyhow::Result<Conflict> {
+        let mut other = log(heap, BLOCKS * BLOCK_ENTRIES, Term(1))?;
+        let other = memory_of(&mut other)?;
+        let blocks = (0..BLOCKS).map(|i| Placed::new(heap, other, Index(i * BLOCK_ENTRIES)));
         Ok(Conflict {
             memory: log(heap, ENTRIES, Term(2))?,
             blocks: blocks.try_collect(heap)?,
@@ -89,20 +92,23 @@ impl Work for Conflict {
     }
 
     fn round(&mut self) -> u64 {
+        let Ok(memory) = memory_of(&mut self.memory) else {
+            return 0;
+        };
         self.blocks
             .iter()
-            .find_map(|block| block.conflict(&self.memory))
+            .find_map(|block| block.conflict(memory))
             .map_or(0, |index| index.0)
     }
 }
 
 #[derive(Drop)]
 pub struct Hint {
-    memory: Box<Memory>,
+    memory: Vec<u64>,
 }
 
 impl Hint {
-    pub fn new(heap: Global) -> Result<Hint, AllocError> {
+    pub fn new(heap: Global) -> anyhow::Result<Hint> {
         Ok(Hint {
             memory: log(heap, ENTRIES, Term(2))?,
         })
@@ -119,6 +125,9 @@ impl Work for Hint {
     }
 
     fn round(&mut self) -> u64 {
-        ENTRIES.saturating_sub(find_conflict_by_term(&self.memory, Index(ENTRIES), Term(0)).0)
+        let Ok(memory) = memory_of(&mut self.memory) else {
+            return 0;
+        };
+        ENTRIES.saturating_sub(find_conflict_by_term(memory, Index(ENTRIES), Term(0)).0)
     }
 }

@@ -1,14 +1,15 @@
 //! What one event costs the leader of three, with all its acts, at a short log and at a long one. After each the memory is set back, so that every event finds the same.
 use crate::VALUE;
 use crate::clusters::{Cluster, Machine};
+use crate::memory::memory_of;
 use crate::timing::Work;
 use anyhow::Context;
 use messages::encoder::encode;
 use messages::{MAX_LETTER_BYTES, Message};
 use raft::rows::{MATCHED, NEXT};
-use raft_log::layout::{APPLIED, COMMITTED, LAST_INDEX, MEMORY_WORDS};
+use raft_log::layout::{APPLIED, COMMITTED, LAST_INDEX, MEMORY_WORDS, Memory};
 use raft_log::{Index, MachineId, Term};
-use std::alloc::{AllocError, Global};
+use std::alloc::Global;
 use together::Told;
 use together::engine::Event;
 
@@ -38,6 +39,19 @@ impl Kind {
             },
         }
     }
+
+    // Before an acknowledgement nobody has the last entry, so it is not decided.
+    fn set_back(self, memory: &mut Memory, entries: u64) {
+        memory[LAST_INDEX] = entries;
+        if self == Kind::Acknowledgement {
+            memory[COMMITTED] = entries.saturating_sub(1);
+            memory[APPLIED] = entries.saturating_sub(2);
+            for machine in [0, FOLLOWER] {
+                memory[MATCHED + machine] = entries.saturating_sub(1);
+                memory[NEXT + machine] = entries;
+            }
+        }
+    }
 }
 
 #[derive(Drop)]
@@ -50,15 +64,17 @@ pub struct Reaction {
 }
 
 // The bytes of an acknowledgement in term 1.
-fn acknowledgement(heap: Global, index: Index) -> Result<Vec<u8>, AllocError> {
-    let memory = Box::new(heap, [0; MEMORY_WORDS])?;
-    let mut out = [0; MAX_LETTER_BYTES];
+fn acknowledgement(heap: Global, index: Index) -> anyhow::Result<Vec<u8>> {
+    let mut words = vec![in heap; 0; MEMORY_WORDS]?;
+    let memory = memory_of(&mut words)?;
+    let mut out = vec![in heap; 0; MAX_LETTER_BYTES]?;
     let message = Message::AppendResponse {
         term: Term(1),
         index,
     };
-    let long = encode(message, &memory, &mut out);
-    Vec::from_slice(heap, &out[..long])
+    let long = encode(message, memory, &mut out);
+    out.truncate(long);
+    Ok(out)
 }
 
 // The leader of three with so many entries, of which the first is empty; all have them.
@@ -100,22 +116,11 @@ impl Reaction {
         letters
     }
 
-    // Before an acknowledgement nobody has the last entry, so it is not decided.
-    fn set_back(&mut self) {
-        let memory = &mut self.leader.memory;
-        memory[LAST_INDEX] = self.entries;
-        if self.kind == Kind::Acknowledgement {
-            memory[COMMITTED] = self.entries.saturating_sub(1);
-            memory[APPLIED] = self.entries.saturating_sub(2);
-            for machine in [0, FOLLOWER] {
-                memory[MATCHED + machine] = self.entries.saturating_sub(1);
-                memory[NEXT + machine] = self.entries;
-            }
-        }
-    }
-
     fn is_right(&mut self) -> bool {
-        self.set_back();
+        let Ok(memory) = memory_of(&mut self.leader.memory) else {
+            return false;
+        };
+        self.kind.set_back(memory, self.entries);
         self.letters() == 2
     }
 }

@@ -1,8 +1,9 @@
 //! A full append letter, of 15 entries of 256 bytes, to bytes and back, beside a copy of as many bytes.
-ghost use Rattle.std.specs.Prelude.{◌≤◌};
+ghost use Rattle.std.specs.Prelude.{◌≤◌, length};
 
+use crate::memory::memory_of;
 use crate::timing::Work;
-use messages::decoder::decode;
+use messages::decoder::read;
 use messages::encoder::encode;
 use messages::{MAX_LETTER_BYTES, Message};
 use raft_log::accept::{Append, maybe_append};
@@ -10,7 +11,7 @@ use raft_log::block::MAX_BLOCK_ENTRIES;
 use raft_log::entries::append_value;
 use raft_log::layout::{LAST_INDEX, MEMORY_WORDS, Memory};
 use raft_log::{Index, Term};
-use std::alloc::{AllocError, Global};
+use std::alloc::Global;
 
 const VALUE: [u8; 256] = [7; 256];
 
@@ -22,7 +23,8 @@ const LETTER_BYTES: usize = 4024;
 // The low byte of a letter's term, behind its kind.
 const TERM_AT: usize = 1;
 
-fn full_append(term: Term, memory: &Memory, out: &mut [u8; MAX_LETTER_BYTES]) -> usize
+fn full_append(term: Term, memory: &Memory, out: &mut [u8]) -> usize
+    requires { 4096 ≤ length out.old }
     ensures { result ≤ 4096 }
 {
     let message = Message::Append {
@@ -36,40 +38,48 @@ fn full_append(term: Term, memory: &Memory, out: &mut [u8; MAX_LETTER_BYTES]) ->
 }
 
 // A log of as many entries as a letter takes.
-fn full_log(heap: Global) -> Result<Box<Memory>, AllocError> {
-    let mut memory = Box::new(heap, [0; MEMORY_WORDS])?;
+fn full_log(heap: Global) -> anyhow::Result<Vec<u64>> {
+    let mut words = vec![in heap; 0; MEMORY_WORDS]?;
+    let memory = memory_of(&mut words)?;
     for _ in 0..MAX_BLOCK_ENTRIES {
-        let _ = append_value(&mut memory, Term(1), &VALUE);
+        let _ = append_value(memory, Term(1), &VALUE);
     }
-    Ok(memory)
+    Ok(words)
 }
 
 // The bytes of a full letter.
-fn letter(heap: Global, term: Term) -> Result<Vec<u8>, AllocError> {
-    let memory = full_log(heap)?;
-    let mut out = [0; MAX_LETTER_BYTES];
-    let end = full_append(term, &memory, &mut out);
-    Vec::from_slice(heap, &out[..end])
+fn letter(heap: Global, term: Term) -> anyhow::Result<Vec<u8>> {
+    let mut words = full_log(heap)?;
+    let memory = memory_of(&mut words)?;
+    let mut out = vec![in heap; 0; MAX_LETTER_BYTES]?;
+    let end = full_append(term, memory, &mut out);
+    out.truncate(end);
+    Ok(out)
 }
 
 #[derive(Drop)]
 pub struct Encode {
-    memory: Box<Memory>,
-    out: Box<[u8; MAX_LETTER_BYTES]>,
+    memory: Vec<u64>,
+    out: Vec<u8>,
 }
 
 impl Encode {
-    pub fn new(heap: Global) -> Result<Encode, AllocError> {
+    pub fn new(heap: Global) -> anyhow::Result<Encode> {
         Ok(Encode {
             memory: full_log(heap)?,
-            out: Box::new(heap, [0; MAX_LETTER_BYTES])?,
+            out: vec![in heap; 0; MAX_LETTER_BYTES]?,
         })
     }
 
     fn is_right(&mut self, term: u64) -> bool {
-        full_append(Term(term), &self.memory, &mut self.out) == LETTER_BYTES
-            && u64::from(self.out[TERM_AT]) == term % 256
-            && self.out[LETTER_BYTES - 1] == 7
+        let Ok(memory) = memory_of(&mut self.memory) else {
+            return false;
+        };
+        let out: &mut [u8] = &mut self.out;
+        out.len() == MAX_LETTER_BYTES
+            && full_append(Term(term), memory, out) == LETTER_BYTES
+            && u64::from(out[TERM_AT]) == term % 256
+            && out[LETTER_BYTES - 1] == 7
     }
 }
 
@@ -89,7 +99,7 @@ impl Work for Encode {
 
 // Are these bytes an append with all its entries, of one of the terms in use?
 fn is_append(bytes: &[u8]) -> bool {
-    match decode(bytes) {
+    match read(bytes) {
         Some(Message::Append { term, entries, .. }) => {
             term < Term(LETTERS) && entries.len() == MAX_BLOCK_ENTRIES
         }
@@ -103,7 +113,7 @@ pub struct Decode {
 }
 
 impl Decode {
-    pub fn new(heap: Global) -> Result<Decode, AllocError> {
+    pub fn new(heap: Global) -> anyhow::Result<Decode> {
         let letters = (0..LETTERS).map(|term| letter(heap, Term(term)));
         Ok(Decode {
             letters: letters.try_collect(heap)?,
@@ -128,23 +138,28 @@ impl Work for Decode {
 
 #[derive(Drop)]
 pub struct Copying {
-    from: Box<[u8; LETTER_BYTES]>,
-    to: Box<[u8; LETTER_BYTES]>,
+    from: Vec<u8>,
+    to: Vec<u8>,
 }
 
 impl Copying {
-    pub fn new(heap: Global) -> Result<Copying, AllocError> {
+    pub fn new(heap: Global) -> anyhow::Result<Copying> {
         Ok(Copying {
-            from: Box::new(heap, [7; LETTER_BYTES])?,
-            to: Box::new(heap, [7; LETTER_BYTES])?,
+            from: letter(heap, Term(1))?,
+            to: letter(heap, Term(1))?,
         })
     }
 
     fn is_right(&mut self, i: u64) -> bool {
+        let from: &mut [u8] = &mut self.from;
+        let to: &mut [u8] = &mut self.to;
+        if from.len() != LETTER_BYTES || to.len() != LETTER_BYTES {
+            return false;
+        }
         let byte = (i % 256) as u8;
-        self.from[TERM_AT] = byte;
-        self.to.copy_from_slice(&*self.from);
-        self.to[TERM_AT] == byte && self.to[LETTER_BYTES - 1] == 7
+        from[TERM_AT] = byte;
+        to.copy_from_slice(from);
+        to[TERM_AT] == byte && to[LETTER_BYTES - 1] == 7
     }
 }
 
@@ -164,29 +179,32 @@ impl Work for Copying {
 
 #[derive(Drop)]
 pub struct Take {
-    memory: Box<Memory>,
+    memory: Vec<u64>,
     letter: Vec<u8>,
 }
 
 impl Take {
-    pub fn new(heap: Global) -> Result<Take, AllocError> {
+    pub fn new(heap: Global) -> anyhow::Result<Take> {
         Ok(Take {
-            memory: Box::new(heap, [0; MEMORY_WORDS])?,
+            memory: vec![in heap; 0; MEMORY_WORDS]?,
             letter: letter(heap, Term(1))?,
         })
     }
 }
 
-// What a letter asks a follower to append.
+// What a full letter asks a follower to append.
 fn append_of(letter: &[u8]) -> Option<Append<'_>> {
-    match decode(letter)? {
+    if letter.len() != LETTER_BYTES {
+        return None;
+    }
+    match read(letter)? {
         Message::Append {
             prev_index,
             prev_term,
             commit,
             entries,
             ..
-        } => Some(Append {
+        } if entries.len() == MAX_BLOCK_ENTRIES => Some(Append {
             prev: prev_index,
             prev_term,
             commit,
@@ -212,11 +230,14 @@ impl Work for Take {
     }
 
     fn round(&mut self) -> u64 {
+        let Ok(memory) = memory_of(&mut self.memory) else {
+            return 0;
+        };
         let Some(append) = append_of(&self.letter) else {
             return 0;
         };
         (0..OPERATIONS)
-            .filter(|_| is_taken(&mut self.memory, &append))
+            .filter(|_| is_taken(memory, &append))
             .count() as u64
     }
 }

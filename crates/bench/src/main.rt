@@ -7,6 +7,7 @@ mod conflicts;
 mod events;
 mod halves;
 mod letters;
+mod memory;
 mod timing;
 
 use crate::timing::Work;

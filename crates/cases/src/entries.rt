@@ -8,6 +8,11 @@ use std::alloc::{AllocError, Global};
 
 const MAX_BYTES: usize = MAX_VALUE_BYTES as usize;
 
+/// A memory is too large for the stack: its words are on the heap, and are seen as a memory here.
+pub fn memory_of(words: &mut [u64]) -> Result<&mut Memory, RowError> {
+    words.as_mut_array().ok_or(RowError::Memory)
+}
+
 // Puts an entry behind the last; its value is its own text.
 fn push(memory: &mut Memory, pair: &str, name: &'static str) -> Result<(), RowError> {
     let (index, term) = parse_pair(pair, name)?;

@@ -1,5 +1,5 @@
 //! The log: its terms, how far it is decided, which of two logs is further, and what becomes of entries on offer.
-use crate::entries::{append, log_text};
+use crate::entries::{append, log_text, memory_of};
 use crate::offer::Offer;
 use crate::row::{Row, RowError};
 use crate::word::Word;
@@ -11,7 +11,8 @@ use raft_log::{Index, Term};
 use std::alloc::Global;
 
 pub fn answer(heap: Global, row: &Row<'_>) -> Result<String, RowError> {
-    let memory = &mut [0; MEMORY_WORDS];
+    let mut words = vec![in heap; 0; MEMORY_WORDS]?;
+    let memory = memory_of(&mut words)?;
     append(memory, row.list("log")?, "log")?;
     match row.operation {
         "term" => answer_term(heap, row, memory),

@@ -1,7 +1,7 @@
 //! Entries that a leader offers, as the block that a letter would carry.
 ghost use Rattle.std.specs.Prelude.{◌≡◌, ◌<◌, IfOk};
 
-use crate::entries::{append, extent, pad};
+use crate::entries::{append, extent, memory_of, pad};
 use crate::row::RowError;
 use raft_log::accept::Append;
 use raft_log::block::{Block, MAX_BLOCK_ENTRIES};
@@ -30,7 +30,8 @@ impl Offer {
         if count > MAX_BLOCK_ENTRIES || prev.0 >= MAX_ENTRIES {
             return Err(RowError::TooLarge(NAME));
         }
-        let memory = &mut [0; MEMORY_WORDS];
+        let mut words = vec![in heap; 0; MEMORY_WORDS]?;
+        let memory = memory_of(&mut words)?;
         pad(memory, prev, NAME)?;
         append(memory, entries, NAME)?;
         let mut bytes = vec![in heap; 0; BLOCK_BYTES]?;

@@ -33,7 +33,7 @@ fn start(rt: &HostRuntime, node: &mut Node) -> anyhow::Result<()> {
 
 fn run(rt: &HostRuntime) -> anyhow::Result<()> {
     let text = lines_of(rt)?;
-    let mut node = Node::new();
+    let mut node = Node::new(rt.alloc())?;
     start(rt, &mut node)?;
     for line in text.as_str().lines() {
         println!(rt; "propose {line}")?;
@@ -41,7 +41,7 @@ fn run(rt: &HostRuntime) -> anyhow::Result<()> {
     }
     node.how_far(rt)?;
     println!(rt; "power goes")?;
-    node.stop();
+    node.stop()?;
     start(rt, &mut node)?;
     println!(rt; "propose last")?;
     node.propose(rt, b"last")?;

@@ -1,34 +1,41 @@
 //! A machine with its memory, what of it is safe, and a place for what its acts carry.
-use anyhow::{Context, anyhow};
+use anyhow::{Context, anyhow, ensure};
 use raft::header::ClusterSize;
 use raft_log::MachineId;
-use raft_log::layout::{MEMORY_WORDS, Memory};
-use together::Told;
-use together::alone::Alone;
-use together::engine::{Event, MAX_LETTER_BYTES, react};
+use std::alloc::{AllocError, Global};
+use together::engine::{Event, MAX_LETTER_BYTES};
+use together::{MEMORY_WORDS, Told, step_event};
 
 // Above any number of acts that an event begins.
 const MAX_ACTS: u64 = 10_000;
 
+// A memory is too large for the stack.
 #[derive(Drop)]
 pub struct Node {
-    memory: Memory,
-    stable: Memory,
-    out: [u8; MAX_LETTER_BYTES],
+    memory: Vec<u64>,
+    stable: Vec<u64>,
+    out: Vec<u8>,
+}
+
+// Makes a memory what another is.
+fn copy(to: &mut [u64], from: &[u64]) -> anyhow::Result<()> {
+    ensure!(to.len() == from.len(), "a memory of another length");
+    to.copy_from_slice(from);
+    Ok(())
 }
 
 impl Node {
-    pub fn new() -> Node {
-        Node {
-            memory: [0; MEMORY_WORDS],
-            stable: [0; MEMORY_WORDS],
-            out: [0; MAX_LETTER_BYTES],
-        }
+    pub fn new(heap: Global) -> Result<Node, AllocError> {
+        Ok(Node {
+            memory: vec![in heap; 0; MEMORY_WORDS]?,
+            stable: vec![in heap; 0; MEMORY_WORDS]?,
+            out: vec![in heap; 0; MAX_LETTER_BYTES]?,
+        })
     }
 
     /// Power goes: memory is what was last made safe.
-    pub fn stop(&mut self) {
-        self.memory.copy_from_slice(&self.stable);
+    pub fn stop(&mut self) -> anyhow::Result<()> {
+        copy(&mut self.memory, &self.stable)
     }
 
     pub fn power(
@@ -65,13 +72,13 @@ impl Node {
     }
 
     fn told(&mut self, event: Event<'_>) -> Told {
-        react::<Alone>(&mut self.memory, event, &mut self.out)
+        step_event(&mut self.memory, event, &mut self.out)
     }
 
     // Does an act, and says whether more may follow.
     fn act(&mut self, rt: &HostRuntime, told: Told) -> anyhow::Result<bool> {
         match told {
-            Told::Settle => self.stable.copy_from_slice(&self.memory),
+            Told::Settle => copy(&mut self.stable, &self.memory)?,
             Told::Applies(number, long) => {
                 let value = self.out.get(..long as usize);
                 let value = value.context("a value beyond its room")?;

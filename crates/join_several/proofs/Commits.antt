@@ -6,7 +6,7 @@ use Rattle.std.proofs.lemmas.Bool.{cond-false, cond_both, cases_Bool, cases_lt, 
 use Rattle.raft_log.specs.Layout.{memory_words}
 use Rattle.raft_log.specs.View.{log_of, Tidy}
 use Rattle.raft_log.specs.Entries.{last_index, commit_index, applied_number, term_at, commit_rises, commit_raised}
-use Rattle.raft_log.proofs.LogLaws.{same_applied, commit_raised_other, commit_raised_up}
+use Rattle.raft_log.proofs.LogLaws.{same_applied, length_commit_raised, commit_raised_other, commit_raised_up}
 use Rattle.raft_log.proofs.LogChanges.{commit_raised_log, commit_raised_tidy}
 use Rattle.tracker.specs.Majority.{reached}
 use Rattle.raft.specs.Rows.{most_of, majority_below}
@@ -64,6 +64,12 @@ majority_most ks (suc k) =
 
 -- WHAT IS DECIDED changes nothing but its own word
 module _ (m : List ℕ) (n t : ℕ) where
+  pub maybe_length : length (maybe_committed m n t) ≡ length m
+  unfolding maybe_committed
+  maybe_length =
+      cond_both (eqb (term_at m (quorum_index m n)) t) (commit_raised m (quorum_index m n)) m (λ (x : List ℕ). length x ≡ length m)
+      (λ _. length_commit_raised m (quorum_index m n)) (λ _. refl)
+
   pub maybe_other : (j : ℕ) → j ≢ 65 → get_or (maybe_committed m n t) j 0 ≡ get_or m j 0
   unfolding maybe_committed
   maybe_other j ne =

@@ -6,6 +6,7 @@ pub mod Elections
 pub mod Frames
 pub mod Leads
 pub mod Lifts
+pub mod Loose
 pub mod Outs
 pub mod Powers
 pub mod Proposals

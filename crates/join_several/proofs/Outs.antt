@@ -24,7 +24,7 @@ use Rattle.raft.proofs.RowLaws.{row_put_same}
 use Rattle.raft.proofs.Mails.{letter_alike, mails_alike}
 use Rattle.protocol.specs.Lists.{pick}
 use Rattle.protocol.specs.Log.{Log, term_before, last_term}
-use Rattle.machine.specs.Machine.{Machine, Role, follower, candidate, leader, Letter, append, request, ack, reject, here, Out, out}
+use Rattle.machine.specs.Machine.{Machine, Role, follower, candidate, leader, Letter, append, request, vote, ack, reject, here, Out, out}
 use Rattle.machine.specs.Step.{to_others, request_of, append_at}
 use Rattle.join_several.specs.Stands.{conf, lift_log, Leads, RoleStands, Stands}
 use Rattle.join_several.specs.Does.{lift_letter, lift_mail, posted}
@@ -341,6 +341,12 @@ module _ (n id : ℕ) (m : List ℕ) (x : Machine (List ℕ)) (s : Stands n id m
 
   pub made_here : (j : ℕ) → letter_of m TellTerm j ≡ here x.term
   made_here j = ap here s.term
+
+  pub made_grant : (j : ℕ) → letter_of m Grant j ≡ vote x.term true
+  made_grant j = ap (λ (t : ℕ). vote t true) s.term
+
+  pub made_deny : (j : ℕ) → letter_of m Deny j ≡ vote x.term false
+  made_deny j = ap (λ (t : ℕ). vote t false) s.term
 
   pub made_append : (a b : ℕ → ℕ) → x.role ≡ leader a b → (j : ℕ) → j < n → letter_of m Append j ≡ append_at (conf n) x (b j)
   made_append a b is j l =

@@ -1,5 +1,5 @@
 -- A machine alone: it is all of the majority, so what it has is committed at once, and it sends nothing. Assumes nothing.
-use Rattle.std.proofs.Common.{◌≡◌, ℕ, zero, suc, ◌*◌, ◌<◌, ◌≤◌, Bool, true, false, ◌&&◌, eqb, ltb, leb, List, [], ◌∷◌, ◌++◌, length, refl, ap, ◌∙◌, inl, inr, arith}
+use Rattle.std.proofs.Common.{◌≡◌, ℕ, zero, suc, ◌+◌, ◌*◌, ◌<◌, ◌≤◌, Bool, true, false, ◌&&◌, eqb, ltb, leb, List, [], ◌∷◌, ◌++◌, length, refl, ap, ◌∙◌, inl, inr, arith}
 use mathlib.Core.Option.{some}
 use Rattle.std.proofs.lemmas.Bool.{and_from, and_cases, lt-ltb, le-ltb, ltb-false, le-leb, eq-eqb, eqb-false}
 use Rattle.protocol.specs.Lists.{pick, upd}
@@ -8,7 +8,7 @@ use Rattle.protocol.specs.History.{count, owner as owner_of}
 use Rattle.protocol.proofs.Updates.{pick_both, upd_same}
 use Rattle.protocol.proofs.Logs.{term_same, push_length, push_last, last_some, renew_index_is, renew_length, renew_last}
 use Rattle.machine.specs.Machine.{Conf, Machine, machine, Role, follower, candidate, leader, Letter, here, Out, out, Outcome, outcome}
-use Rattle.machine.specs.Step.{owner, is_majority, to_others, broadcast, append_at, majority_index, maybe_commit, new_leader, become_leader, poll, as_follower, enter, ticked, reminder, tick_election, tick_as, on_tick, proposed, propose_as, append_proposal, on_proposal}
+use Rattle.machine.specs.Step.{owner, is_majority, to_others, broadcast, request_of, append_at, majority_index, maybe_commit, new_leader, become_leader, as_candidate, poll, as_follower, enter, ticked, reminder, tick_election, tick_as, on_tick, proposed, propose_as, append_proposal, on_proposal}
 
 pick_true : {A : Type 0} (b : Bool) (x y : A) → b ≡ true → pick b x y ≡ x
 pick_true b x y e = ap (λ (z : Bool). pick z x y) e
@@ -52,6 +52,34 @@ module _ (c : Conf) (one : c.size ≡ 1) where
   broadcast_alone : {A : Type 0} (f : ℕ → Letter A) → broadcast c 0 f ≡ []
   broadcast_alone f = ap (to_others 0 f) one ∙ to_nobody f
 
+-- a tick that keeps the term keeps commit: this is so in any cluster
+poll_term : {A : Type 0} (c : Conf) (id : ℕ) (m : Machine A) (v : ℕ → Bool) (o : List (Out A)) → (poll c id m v o).now.term ≡ m.term
+unfolding poll become_leader
+poll_term {A} c id m v o =
+    pick_both (λ (d : Outcome A). d.now.term ≡ m.term) (is_majority c v && ltb (m.elapsed + 2) c.wait) (become_leader c id m) (outcome (as_candidate m v) o)
+    (λ _. refl) (λ _. refl)
+
+enter_term : {A : Type 0} (c : Conf) (id : ℕ) (m : Machine A) (t : ℕ) (o : List (Out A)) → (enter c id m t o).now.term ≡ t
+unfolding enter
+enter_term {A} c id m t o =
+    pick_both (λ (d : Outcome A). d.now.term ≡ t) (eqb (owner c t) id) (poll c id (as_follower m t) (λ j. eqb j id) (broadcast c id (λ _. request_of (as_follower m t))))
+    (outcome (as_follower m t) o) (λ _. poll_term c id (as_follower m t) (λ j. eqb j id) (broadcast c id (λ _. request_of (as_follower m t)))) (λ _. refl)
+
+election_kept : {A : Type 0} (c : Conf) (id : ℕ) (m : Machine A) → m.term ≡ (tick_election c id m).now.term → m.commit ≡ (tick_election c id m).now.commit
+election_kept {A} c id m =
+    pick_both (λ (d : Outcome A). m.term ≡ d.now.term → m.commit ≡ d.now.commit) (ltb (suc m.elapsed) c.wait) (outcome (ticked m) (reminder c id m m.role))
+    (enter c id m (suc m.term) (broadcast c id (λ _. here (suc m.term)))) (λ _ _. refl)
+    (λ _ e. absurd (omega (arith, e, enter_term c id m (suc m.term) (broadcast c id (λ _. here (suc m.term))))))
+
+tick_kept : {A : Type 0} (c : Conf) (id : ℕ) (m : Machine A) (r : Role) → m.term ≡ (tick_as c id m r).now.term → m.commit ≡ (tick_as c id m r).now.commit
+tick_kept c id m follower e = election_kept c id m e
+tick_kept c id m (candidate v) e = election_kept c id m e
+tick_kept c id m (leader a b) e = refl
+
+pub alone_tick_kept : {A : Type 0} (c : Conf) (id : ℕ) (m : Machine A) → m.term ≡ (on_tick c id m).now.term → m.commit ≡ (on_tick c id m).now.commit
+unfolding on_tick
+alone_tick_kept c id m e = tick_kept c id m m.role e
+
 -- the log that a machine leads its next term with, when it is alone, and the machine then
 abbrev pub own_log : {A : Type 0} → Machine A → Log A
 own_log m = renew (suc m.term) m.log
@@ -71,6 +99,23 @@ renew_ends t l = last_some (renew t l) _ (renew_length t l) ∙ term_same _ _ (r
 
 pub push_ends : {A : Type 0} (t : ℕ) (l : Log A) (v : A) → last_term (l ++ entry t (some v) ∷ []) ≡ t
 push_ends t l v = last_some (l ++ entry t (some v) ∷ []) (length l) (push_length l (entry t (some v))) ∙ term_same _ _ (push_last l (entry t (some v)) (length l) refl)
+
+-- a proposal is refused by one that does not lead, and when the log is full: this is so in any cluster
+refuse_as : {A : Type 0} (c : Conf) (id : ℕ) (m : Machine A) (v : A) (r : Role) → ((a b : ℕ → ℕ) → r ≡ leader a b → ⊥) → propose_as c id m v r ≡ outcome m []
+refuse_as c id m v follower h = refl
+refuse_as c id m v (candidate w) h = refl
+refuse_as c id m v (leader a b) h = absurd (h a b refl)
+
+pub other_refuses : {A : Type 0} (c : Conf) (id : ℕ) (m : Machine A) (v : A) → ((a b : ℕ → ℕ) → m.role ≡ leader a b → ⊥) → on_proposal c id m v ≡ outcome m []
+unfolding on_proposal append_proposal
+other_refuses {A} c id m v h =
+    pick_both (λ (d : Outcome A). d ≡ outcome m []) (ltb (length (decisions m.log)) c.room) (append_proposal c id m v) (outcome m [])
+    (λ _. refuse_as c id m v m.role h) (λ _. refl)
+
+pub full_refuses : {A : Type 0} (c : Conf) (id : ℕ) (m : Machine A) (v : A) → c.room ≤ length (decisions m.log) → on_proposal c id m v ≡ outcome m []
+unfolding on_proposal
+full_refuses c id m v h =
+    pick_false (ltb (length (decisions m.log)) c.room) (append_proposal c id m v) (outcome m []) (le-ltb (length (decisions m.log)) c.room h)
 
 -- who does not lead waits or stands
 other_tick : {A : Type 0} (c : Conf) (m : Machine A) (r : Role) → ((a b : ℕ → ℕ) → r ≡ leader a b → ⊥) → tick_as c 0 m r ≡ tick_election c 0 m

@@ -1,7 +1,7 @@
 -- Logs stay small. Assumes nothing.
-use Rattle.std.proofs.Common.{◌≡◌, ℕ, suc, pred, ◌+◌, ◌*◌, ◌<◌, ◌≤◌, Bool, true, List, [], ◌∷◌, ◌++◌, length, take, sym, refl, ap, ◌∙◌, subst, inl, inr, arith}
+use Rattle.std.proofs.Common.{◌≡◌, ℕ, suc, pred, ◌+◌, ◌*◌, ◌<◌, ◌≤◌, Bool, true, List, [], ◌∷◌, ◌++◌, length, take, drop, sym, refl, ap, ◌∙◌, subst, inl, inr, arith}
 use mathlib.Core.Option.{none, some}
-use Rattle.std.proofs.lemmas.List.{length-append, length-take-le, get_or-take, ext_get_or, take_all}
+use Rattle.std.proofs.lemmas.List.{append-nil, length-append, length-take-le, get_or-take, ext_get_or, take-append-drop, take_all, drop_more, drop_all}
 use Rattle.std.proofs.lemmas.Bool.{cases_lt, cases_eq}
 use Rattle.protocol.specs.Lists.{pick, upd}
 use Rattle.protocol.specs.Log.{entry, Log, entry_at, term_at, content_at, is_none, renew_index, renew, decisions}
@@ -72,22 +72,43 @@ full_index (x ∷ xs) i e h z =
     let y : pick (is_none (content_at (x ∷ xs) (length xs))) (length xs) (suc (length xs)) ≡ length xs = ap (λ (b : Bool). pick b (length xs) (suc (length xs))) w in
     omega arith
 
-renew_decisions : (t : ℕ) (l : Log ℕ) → length (decisions (renew t l)) ≤ length (decisions l)
+-- a log whose last entry is empty has the values of the rest
+rest_values : {A : Type 0} (k : ℕ) (l : Log A) → k < length l → length l ≤ suc k → content_at l k ≡ none → decisions (drop k l) ≡ []
+rest_values k l b h z =
+    ap decisions (drop_more l k (entry 0 none) b)
+    ∙ decisions_empty (entry_at l k) (drop (k + 1) l) z
+    ∙ ap decisions (drop_all (k + 1) l (omega arith))
+    ∙ decisions_none
+
+front_values : {A : Type 0} (k : ℕ) (l : Log A) → decisions (drop k l) ≡ [] → decisions (take k l) ≡ decisions l
+front_values {A} k l e =
+    sym (append-nil (decisions (take k l)))
+    ∙ ap (λ (xs : List A). decisions (take k l) ++ xs) (sym e)
+    ∙ sym (decisions-++ (take k l) (drop k l))
+    ∙ ap decisions (take-append-drop k l)
+
+index_values : {A : Type 0} (l : Log A) → decisions (take (renew_index l) l) ≡ decisions l
+index_values l =
+    let r = renew_index_is l in
+    elim (cases_lt (renew_index l) (length l)) [
+      | inl b ↦ front_values (renew_index l) l (rest_values (renew_index l) l b r.high (r.empty b))
+      | inr b ↦ ap decisions (take_all (renew_index l) l b)
+    ]
+
+-- a new leader's empty entry is no value, and takes the place of none
+pub renew_values : {A : Type 0} (t : ℕ) (l : Log A) → decisions (renew t l) ≡ decisions l
 unfolding renew
-renew_decisions t l =
-    let all : take (length l) l ≡ l = take_all (length l) l (omega arith) in
-    let less : length (decisions (take (renew_index l) l)) ≤ length (decisions (take (length l) l)) =
-    begins_length _ _ (decisions_take l (renew_index l) (length l) (renew_index_is l).low) in
-    let e1 = ap length (decisions-++ (take (renew_index l) l) (entry t none ∷ [])) in
-    let e2 = length-append (decisions (take (renew_index l) l)) (decisions (entry t none ∷ [])) in
-    let e3 : length (decisions (entry t none ∷ [])) ≡ 0 = ap (λ (x : List ℕ). length x) (decisions_empty (entry t none) [] refl ∙ decisions_none) in
-    omega (arith, ap (λ (x : Log ℕ). length (decisions x)) all)
+renew_values {A} t l =
+    decisions-++ (take (renew_index l) l) (entry t none ∷ [])
+    ∙ ap (λ (xs : List A). decisions (take (renew_index l) l) ++ xs) (decisions_empty (entry t none) [] refl ∙ decisions_none)
+    ∙ append-nil (decisions (take (renew_index l) l))
+    ∙ index_values l
 
 renew_small : (room t : ℕ) (l : Log ℕ) → Small room l → Small room (renew t l)
 renew_small room t l d =
     let bi = renew_index_is l in
     record {
-      values = omega (arith, renew_decisions t l, d.values);
+      values = omega (arith, ap length (renew_values t l), d.values);
       apart = λ i h x y.
           let low : i < renew_index l = omega (arith, renew_length t l) in
           let at_i : content_at l i ≡ none = sym (content_same _ _ (renew_front t l i low)) ∙ x in

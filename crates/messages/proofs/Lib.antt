@@ -2,4 +2,5 @@ pub mod Decoding
 pub mod Encoding
 pub mod RoundTrip
 pub mod OneToOne
+pub mod Counting
 pub mod Sent

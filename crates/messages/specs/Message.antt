@@ -1,10 +1,10 @@
 -- What the messages of the code stand for.
-use Rattle.std.specs.Prelude.{◌≡◌, ℕ, ◌+◌, ◌*◌, ◌^◌, ◌<◌, ◌≤◌, List, length, slice_index, Some, None, Option as Maybe}
+use Rattle.std.specs.Prelude.{◌≡◌, ℕ, ◌+◌, ◌*◌, ◌^◌, ◌<◌, ◌≤◌, true, List, length, drop, slice_index, Some, None, Option as Maybe}
 use Rattle.std.proofs.Math.Option.{Option, none, some}
 use Rattle.messages.specs.declared.Message.{Message}
 use Rattle.messages.specs.declared.Message.TheVariants.{Append, AppendResponse, AppendReject, RequestVote, RequestVoteResponse, TermNotice}
 use Rattle.raft_log.specs.Bytes.{Words, word_at}
-use Rattle.raft_log.specs.Block.{Entry, log_entries}
+use Rattle.raft_log.specs.Block.{Entry, block_entries, block_fits, log_entries}
 use Rattle.messages.specs.Letter.{Letter, append, append_response, append_reject, request_vote, request_vote_response, term_notice, letter_bytes, letter_of}
 
 -- the letter of a message, given the entries that stand for x behind index p
@@ -20,6 +20,10 @@ letter_with f (TermNotice t) = term_notice t.0
 abbrev pub letter_in : Message (List Entry) → Letter
 letter_in = letter_with (λ p es. es)
 
+-- a message that was read and keeps only how many entries it has: they stand in the block
+abbrev pub letter_at : List ℕ → Message ℕ → Letter
+letter_at bs = letter_with (λ p n. block_entries (drop 34 bs) n)
+
 -- a message made by a machine: its entries stand in the log in memory
 abbrev pub letter_from : List ℕ → Message ℕ → Letter
 letter_from m = letter_with (λ p n. log_entries m (p + 1) n)
@@ -28,6 +32,33 @@ letter_from m = letter_with (λ p n. log_entries m (p + 1) n)
 abbrev pub Gives : Option Letter → Maybe (Message (List Entry)) → Type 0
 Gives l (Some r) = l ≡ some (letter_in r)
 Gives l None = l ≡ none
+
+-- the message r is the letter l, read from the bytes bs
+abbrev pub GivesAt : Option Letter → List ℕ → Maybe (Message ℕ) → Type 0
+GivesAt l bs (Some r) = l ≡ some (letter_at bs r)
+GivesAt l bs None = l ≡ none
+
+-- the block of an append can be read
+abbrev pub HasBlock : List ℕ → Message ℕ → Type 0
+HasBlock bs (Append t p q k n) = (34 ≤ length bs) × (block_fits (drop 34 bs) n ≡ true)
+HasBlock bs (AppendResponse t i) = Unit {0}
+HasBlock bs (AppendReject t p h) = Unit {0}
+HasBlock bs (RequestVote t i q) = Unit {0}
+HasBlock bs (RequestVoteResponse t b) = Unit {0}
+HasBlock bs (TermNotice t) = Unit {0}
+
+abbrev pub Readable : List ℕ → Maybe (Message ℕ) → Type 0
+Readable bs (Some r) = HasBlock bs r
+Readable bs None = Unit {0}
+
+-- the message with how many entries it has in their place
+abbrev pub counted : Message (List Entry) → Message ℕ
+counted (Append t p q k es) = Append t p q k (length es)
+counted (AppendResponse t i) = AppendResponse t i
+counted (AppendReject t p h) = AppendReject t p h
+counted (RequestVote t i q) = RequestVote t i q
+counted (RequestVoteResponse t b) = RequestVoteResponse t b
+counted (TermNotice t) = TermNotice t
 
 -- the first n numbers behind the kind, of bytes that are just as long
 abbrev pub NumbersIn : List ℕ → ℕ → Maybe (List ℕ) → Type 0

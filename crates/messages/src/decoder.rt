@@ -1,7 +1,7 @@
 //! Letters from bytes. What is no letter is refused.
-ghost use Rattle.std.specs.Prelude.{◌≤◌};
+ghost use Rattle.std.specs.Prelude.{◌≡◌, ◌≤◌};
 ghost use Rattle.messages.specs.Letter.{append_of, append_response_of, append_reject_of, request_vote_of, request_vote_response_of, term_notice_of, letter_of};
-ghost use Rattle.messages.specs.Message.{Gives, NumbersIn};
+ghost use Rattle.messages.specs.Message.{Gives, GivesAt, Readable, NumbersIn, counted};
 
 use super::kind::Kind;
 use super::{BLOCK_AT, COUNT_AT, FIRST, FOURTH, Message, SECOND, THIRD};
@@ -88,8 +88,8 @@ fn term_notice(bytes: &[u8]) -> Option<Message<Block<'_>>>
     Some(Message::TermNotice { term: Term(term) })
 }
 
-/// The letter that these bytes are; `None` where they are none.
-pub fn decode(bytes: &[u8]) -> Option<Message<Block<'_>>>
+/// The letter that these bytes are, with its entries in place; `None` where they are none.
+pub fn read(bytes: &[u8]) -> Option<Message<Block<'_>>>
     ensures { Gives (letter_of bytes.now) result }
 {
     match Kind::try_from(*bytes.first()?).ok()? {
@@ -100,4 +100,56 @@ pub fn decode(bytes: &[u8]) -> Option<Message<Block<'_>>>
         Kind::RequestVoteResponse => request_vote_response(bytes),
         Kind::TermNotice => term_notice(bytes),
     }
+}
+
+// Without its entries a letter borrows nothing.
+fn counted(message: Message<Block<'_>>) -> Message<usize>
+    ensures { result ≡ counted message.entry }
+{
+    match message {
+        Message::Append {
+            term,
+            prev_index,
+            prev_term,
+            commit,
+            entries,
+        } => Message::Append {
+            term,
+            prev_index,
+            prev_term,
+            commit,
+            entries: entries.len(),
+        },
+        Message::AppendResponse { term, index } => Message::AppendResponse { term, index },
+        Message::AppendReject {
+            term,
+            prev_index,
+            hint,
+        } => Message::AppendReject {
+            term,
+            prev_index,
+            hint,
+        },
+        Message::RequestVote {
+            term,
+            last_index,
+            last_term,
+        } => Message::RequestVote {
+            term,
+            last_index,
+            last_term,
+        },
+        Message::RequestVoteResponse { term, granted } => {
+            Message::RequestVoteResponse { term, granted }
+        }
+        Message::TermNotice { term } => Message::TermNotice { term },
+    }
+}
+
+/// The letter that these bytes are, with how many entries it has: it outlives the bytes, and is copied freely. `None` where they are none.
+pub fn decode(bytes: &[u8]) -> Option<Message<usize>>
+    ensures is { GivesAt (letter_of bytes.now) bytes.now result }
+    ensures block { Readable bytes.now result }
+{
+    Some(counted(read(bytes)?))
 }

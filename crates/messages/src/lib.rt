@@ -25,7 +25,7 @@ pub const BLOCK_AT: usize = 34;
 /// The room that every letter fits.
 pub const MAX_LETTER_BYTES: usize = 4096;
 
-/// A letter. `E` is what stands for the entries of an append: the block that was read, or, of a letter that is to be made from a log, how many they are.
+/// A letter. `E` is what stands for the entries of an append: the block that was read, or only how many they are, of a letter that is kept without its bytes or is to be made from a log.
 #[derive(Clone, Copy)]
 pub enum Message<E> {
     /// The entries behind `prev_index`, from the leader of `term`.

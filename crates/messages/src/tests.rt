@@ -1,7 +1,7 @@
 //! Letters there and back, and damaged ones.
 ghost use Rattle.std.specs.Prelude.{◌≤◌, length};
 
-use super::decoder::decode;
+use super::decoder::{decode, read};
 use super::encoder::encode;
 use super::*;
 use raft_log::entries::append_value;
@@ -42,7 +42,7 @@ fn a_full_append_comes_back(rt: HostRuntime) -> Result<(), Fail> {
             entries,
             ..
         },
-    ) = decode(&out[..long])
+    ) = read(&out[..long])
     else {
         return Err(Fail::new("no append"));
     };
@@ -76,4 +76,45 @@ fn a_damaged_letter_is_refused(rt: HostRuntime) {
     assert!(rt; !is_letter(&out, 566));
     out[0] = 7;
     assert!(rt; !is_letter(&out, 566));
+}
+
+fn carries(message: Message<usize>, count: usize) -> bool {
+    matches!(message, Message::Append { entries, .. } if entries == count)
+}
+
+#[test]
+fn a_letter_outlives_its_bytes(rt: HostRuntime) -> Result<(), Fail> {
+    let mut memory = [0u64; MEMORY_WORDS];
+    let mut out = [0u8; MAX_LETTER_BYTES];
+    fill(&mut memory);
+    let sent = Message::Append {
+        term: Term(1),
+        prev_index: Index(13),
+        prev_term: Term(13),
+        commit: Index(0),
+        entries: 2,
+    };
+    let long = encode(sent, &memory, &mut out);
+    let Some(letter) = decode(&out[..long]) else {
+        return Err(Fail::new("no letter"));
+    };
+    out.fill(0);
+    assert!(rt; carries(letter, 2));
+    assert!(rt; carries(letter, 2));
+    Ok(())
+}
+
+#[test]
+fn a_letter_in_place_has_a_clone(rt: HostRuntime) -> Result<(), Fail> {
+    let memory = [0u64; MEMORY_WORDS];
+    let mut out = [0u8; MAX_LETTER_BYTES];
+    let sent = Message::TermNotice { term: Term(7) };
+    let long = encode(sent, &memory, &mut out);
+    let Some(letter) = read(&out[..long]) else {
+        return Err(Fail::new("no letter"));
+    };
+    let same = letter.clone()?;
+    assert!(rt; matches!(letter, Message::TermNotice { term: Term(7) }));
+    assert!(rt; matches!(same, Message::TermNotice { term: Term(7) }));
+    Ok(())
 }

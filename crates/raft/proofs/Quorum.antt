@@ -33,11 +33,20 @@ majority_is ks c (suc b) q =
 row_width : (n : ℕ) → 15 + n - 15 ≡ n
 row_width n = omega arith
 
+-- of a row that gave an index, up to the log's last
+pub quorum_some : (m : List ℕ) (n r l : ℕ) (i : Index) → CommittedSays (take (15 + n - 15) (drop 15 m)) (Some i) → r ≡ at_most i.0 l → l ≡ last_index m → r ≡ quorum_index m n
+unfolding CommittedSays
+quorum_some m n r l i q e el =
+    e ∙ (ap (at_most i.0) el ∙ (sym (majority_is (take (15 + n - 15) (drop 15 m)) i.0 (last_index m) q.1) ∙ ap (λ k. majority_below (take k (drop 15 m)) (last_index m)) (row_width n)))
+
+-- the row of one machine or more gives one
+pub quorum_none : (m : List ℕ) (n : ℕ) → length m ≡ memory_words → 1 ≤ n → n ≤ 7 → CommittedSays (take (15 + n - 15) (drop 15 m)) None → ⊥
+unfolding CommittedSays
+quorum_none m n long some few q =
+    let l : length (take (15 + n - 15) (drop 15 m)) ≡ n = simp (length-take, length-drop) (omega arith) in
+    elim q [ inl e ↦ omega arith | inr e ↦ omega arith ]
+
 pub quorum : (m : List ℕ) (n r l : ℕ) (most : Option Index) → length m ≡ memory_words → 1 ≤ n → n ≤ 7 → CommittedSays (take (15 + n - 15) (drop 15 m)) most →
     r ≡ at_most (unwrap_or most (record { 0 = 0 })).0 l → l ≡ last_index m → r ≡ quorum_index m n
-unfolding CommittedSays
-quorum m n r l (Some i) long some few q e el =
-    e ∙ (ap (at_most i.0) el ∙ (sym (majority_is (take (15 + n - 15) (drop 15 m)) i.0 (last_index m) q.1) ∙ ap (λ k. majority_below (take k (drop 15 m)) (last_index m)) (row_width n)))
-quorum m n r l None long some few q e el =
-    let w : length (take (15 + n - 15) (drop 15 m)) ≡ n = simp (length-take, length-drop) (omega arith) in
-    absurd (elim q [ inl z ↦ omega arith | inr z ↦ omega arith ])
+quorum m n r l (Some i) long some few q e el = quorum_some m n r l i q e el
+quorum m n r l None long some few q e el = absurd (quorum_none m n long some few q)

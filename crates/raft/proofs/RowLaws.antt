@@ -1,5 +1,5 @@
 -- A row is set one word at a time.
-use Rattle.std.proofs.Common.{◌≡◌, ℕ, zero, suc, ◌+◌, ◌-◌, ◌<◌, ◌≤◌, ◌≢◌, List, length, get_or, sym, refl, ap, ◌∙◌, inl, inr, arith}
+use Rattle.std.proofs.Common.{◌≡◌, ℕ, zero, suc, ◌+◌, ◌-◌, ◌<◌, ◌≤◌, ◌≢◌, List, length, get_or, set, sym, refl, ap, ◌∙◌, inl, inr, add-one, arith}
 use Rattle.std.proofs.lemmas.List.{length-set, get_or-set_same, get_or-set_other, ext_get_or}
 use Rattle.std.proofs.lemmas.Bool.{cases_eq, cases_lt}
 use Rattle.raft.specs.declared.rows.Row.{Row}
@@ -12,6 +12,10 @@ within Votes = omega arith
 within Matched = omega arith
 within Next = omega arith
 within Due = omega arith
+
+pub row_put_more : (m : List ℕ) (base : ℕ) (f : ℕ → ℕ) (j : ℕ) → row_put m base f (j + 1) ≡ set (row_put m base f j) (base + j) (f j)
+unfolding row_put
+row_put_more m base f j = ap (row_put m base f) (add-one j)
 
 pub length_row_put : (m : List ℕ) (base : ℕ) (f : ℕ → ℕ) (n : ℕ) → length (row_put m base f n) ≡ length m
 unfolding row_put

@@ -13,7 +13,7 @@ use super::progress::{take_ack, take_reject};
 use super::rows::Peer;
 use super::say::{Answer, Due, say_answer, say_to};
 use messages::Message;
-use messages::decoder::decode;
+use messages::decoder::read;
 use raft_log::accept::{Append, maybe_append};
 use raft_log::block::Block;
 use raft_log::conflict::{find_conflict, is_up_to_date};
@@ -220,7 +220,7 @@ fn take_by_term(
 pub fn receive(memory: &mut Memory, from: MachineId, bytes: &[u8])
     ensures { memory.new ≡ received memory.old from.0 (letter_of bytes.now) }
 {
-    let Some(message) = decode(bytes) else {
+    let Some(message) = read(bytes) else {
         return;
     };
     let machine = load(memory);
@@ -240,7 +240,7 @@ fn another(machine: Machine<Role>, from: MachineId) -> bool
 pub fn receive_from_another(memory: &mut Memory, from: MachineId, bytes: &[u8])
     ensures { memory.new ≡ received_from_another memory.old from.0 (letter_of bytes.now) }
 {
-    let Some(message) = decode(bytes) else {
+    let Some(message) = read(bytes) else {
         return;
     };
     let machine = load(memory);

@@ -76,6 +76,12 @@ module _ (m : List ℕ) (k : ℕ) (v : List ℕ) where
   unfolding last_index
   put_last = ap (λ x. at_most x 8193) (value_put_before m k v 64 (omega arith))
 
+  pub put_terms : (i : ℕ) → i ≤ last_index m → term_at (value_put m k v) i ≡ term_at m i
+  put_terms zero b = term_none (value_put m k v) ∙ sym (term_none m)
+  put_terms (suc i) b =
+      term_in (value_put m k v) (suc i) (omega arith) (omega (arith, put_last))
+      ∙ (value_put_before m k v (entry_row (suc i)) (omega (arith, last_most m)) ∙ sym (term_in m (suc i) (omega arith) b))
+
   pub put_numbers : (i : ℕ) → i ≤ last_index m → number_at (value_put m k v) i ≡ number_at m i
   put_numbers zero b = number_none (value_put m k v) ∙ sym (number_none m)
   put_numbers (suc i) b =

@@ -1,10 +1,11 @@
 //! Blocks of entries as bytes: a table with a row for each entry, its term and the code of its content, and behind it the values. A block is read in place.
-ghost use Rattle.std.specs.Prelude.{◌≡◌, ◌+◌, ◌*◌, ◌<◌, ◌≤◌, true, false, length, Some, None};
+ghost use Rattle.std.specs.Prelude.{◌≡◌, ◌+◌, ◌*◌, ◌<◌, ◌≤◌, ⊤, true, false, length, Some, None};
 ghost use Rattle.raft_log.specs.Block.{row_term, row_code, row_length, value_offset, ValuesEnd, block_fits, BlockRead, Holds};
 ghost use Rattle.raft_log.specs.View.{entry_in};
 
 use super::Term;
 use super::bytes::{get, get_u64};
+use std::alloc::AllocError;
 use std::marker::Model;
 
 /// The length of a row of the table.
@@ -32,6 +33,20 @@ impl<'a> Model for Block<'a> {
     ghost view = { λ b. block_entries b.bytes.now b.count };
 
     ghost invariant = { λ b. block_fits b.bytes.now b.count ≡ true };
+}
+
+// Of the same bytes, in place: nothing is copied.
+impl<'a> Clone for Block<'a> {
+    ghost is_clone = { λ block copy. copy ≡ block };
+
+    ghost is_infallible = { λ _. ⊤ };
+
+    fn clone(&self) -> Result<Self, AllocError> {
+        Ok(Block {
+            bytes: self.bytes,
+            count: self.count,
+        })
+    }
 }
 
 impl<'a> Block<'a> {

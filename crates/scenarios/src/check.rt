@@ -37,8 +37,8 @@ impl Check {
     }
 
     /// Role, term, commit and log of a machine.
-    pub fn state(&mut self, node: &Node, expected: &str) -> anyhow::Result<()> {
-        self.same("state", State(&node.memory), expected)
+    pub fn state(&mut self, node: &mut Node, expected: &str) -> anyhow::Result<()> {
+        self.same("state", State(node.memory()?), expected)
     }
 
     /// What a machine did since it was last asked.
@@ -56,11 +56,11 @@ impl Check {
     /// How far another machine is, as a leader knows.
     pub fn progress(
         &mut self,
-        node: &Node,
+        node: &mut Node,
         other: MachineId,
         expected: &str,
     ) -> anyhow::Result<()> {
-        self.same("progress", Progress(&node.memory, other), expected)
+        self.same("progress", Progress(node.memory()?, other), expected)
     }
 }
 

@@ -1,11 +1,9 @@
 //! Machines and the letters between them. They are called by upstream's numbers, from 1.
-ghost use Rattle.messages.specs.Message.{Sendable};
-
 use crate::node::{Letter, Node};
 use crate::setup::{Offer, append_letter, letter};
 use anyhow::{Context, bail};
 use messages::Message;
-use messages::decoder::decode;
+use messages::decoder::read;
 use raft::header::{ClusterSize, Machine, Role, load};
 use raft_log::MachineId;
 use std::alloc::Global;
@@ -29,7 +27,7 @@ pub struct Net {
 }
 
 fn is_append(letter: &Letter) -> bool {
-    matches!(decode(&letter.bytes), Some(Message::Append { .. }))
+    matches!(read(&letter.bytes), Some(Message::Append { .. }))
 }
 
 // Is its term its own?
@@ -162,9 +160,7 @@ impl Net {
         self.deliver()
     }
 
-    pub fn post(&mut self, from: u64, to: u64, message: Message<usize>) -> anyhow::Result<()>
-        requires { Sendable message }
-    {
+    pub fn post(&mut self, from: u64, to: u64, message: Message<usize>) -> anyhow::Result<()> {
         let bytes = letter(self.heap, message)?;
         self.post_bytes(from, to, &bytes)
     }
@@ -175,7 +171,7 @@ impl Net {
     }
 
     fn machine(&mut self, name: u64) -> anyhow::Result<Machine<Role>> {
-        Ok(load(&self.node(name)?.memory))
+        Ok(load(self.node(name)?.memory()?))
     }
 
     /// Ticks a machine till it stands in a term of its own; what it says on the way is lost, and so are letters that fly. One that leads goes on leading.

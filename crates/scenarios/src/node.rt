@@ -1,15 +1,15 @@
 //! One machine with its memory and what of it is safe; what it does is noted as text, and the letters that it sends are kept.
 use crate::view::{LetterText, name};
-use anyhow::{Context, bail};
+use anyhow::{Context, bail, ensure};
 use raft::header::ClusterSize;
 use raft_log::MachineId;
-use raft_log::layout::{MEMORY_WORDS, Memory};
-use std::alloc::{AllocError, Global};
+use raft_log::layout::Memory;
+use std::alloc::Global;
 use std::fmt::Display;
 use std::mem;
 use together::Told;
-use together::engine::{Event, MAX_LETTER_BYTES, react};
-use together_several::several::Several;
+use together::engine::{Event, MAX_LETTER_BYTES};
+use together_several::{MEMORY_WORDS, step_event};
 
 // Above any number of acts that an event begins.
 const MAX_ACTS: u64 = 10_000;
@@ -26,20 +26,24 @@ pub struct Node {
     heap: Global,
     id: MachineId,
     size: ClusterSize,
-    pub memory: Box<Memory>,
-    stable: Box<Memory>,
-    out: Box<[u8; MAX_LETTER_BYTES]>,
+    memory: Vec<u64>,
+    stable: Vec<u64>,
+    out: Vec<u8>,
     sent: Vec<Letter>,
     acts: String,
     applied: String,
 }
 
-/// A memory of zeros. It is large and goes over the stack to the heap: a `?` would move it there once more.
-pub fn empty_memory(heap: Global) -> Result<Box<Memory>, AllocError> {
-    match Box::new(heap, [0; MEMORY_WORDS]) {
-        Ok(memory) => Ok(memory),
-        Err(_) => Err(AllocError),
-    }
+/// A memory is too large for the stack: its words are on the heap, and are seen as a memory here.
+pub fn memory_of(words: &mut [u64]) -> anyhow::Result<&mut Memory> {
+    words.as_mut_array().context("a memory of another length")
+}
+
+// Makes a memory what another is.
+fn copy(to: &mut [u64], from: &[u64]) -> anyhow::Result<()> {
+    ensure!(to.len() == from.len(), "a memory of another length");
+    to.copy_from_slice(from);
+    Ok(())
 }
 
 impl Node {
@@ -49,9 +53,9 @@ impl Node {
             heap,
             id,
             size,
-            memory: empty_memory(heap)?,
-            stable: empty_memory(heap)?,
-            out: Box::new(heap, [0; MAX_LETTER_BYTES])?,
+            memory: vec![in heap; 0; MEMORY_WORDS]?,
+            stable: vec![in heap; 0; MEMORY_WORDS]?,
+            out: vec![in heap; 0; MAX_LETTER_BYTES]?,
             sent: Vec::new(heap),
             acts: String::new(heap),
             applied: String::new(heap),
@@ -60,14 +64,18 @@ impl Node {
         Ok(node)
     }
 
+    pub fn memory(&mut self) -> anyhow::Result<&mut Memory> {
+        memory_of(&mut self.memory)
+    }
+
     /// Memory as it is counts as safe.
-    pub fn keep(&mut self) {
-        self.stable.copy_from_slice(&*self.memory);
+    pub fn keep(&mut self) -> anyhow::Result<()> {
+        copy(&mut self.stable, &self.memory)
     }
 
     /// Power goes and comes: memory is what was last made safe.
     pub fn restart(&mut self) -> anyhow::Result<()> {
-        self.memory.copy_from_slice(&*self.stable);
+        copy(&mut self.memory, &self.stable)?;
         self.power()
     }
 
@@ -114,7 +122,7 @@ impl Node {
     }
 
     fn told(&mut self, event: Event<'_>) -> Told {
-        react::<Several>(&mut self.memory, event, &mut *self.out)
+        step_event(&mut self.memory, event, &mut self.out)
     }
 
     fn note<A: Display + Drop>(&mut self, act: A) -> anyhow::Result<()> {
@@ -133,7 +141,7 @@ impl Node {
     }
 
     fn settle(&mut self) -> anyhow::Result<()> {
-        self.keep();
+        self.keep()?;
         self.note("settle")
     }
 

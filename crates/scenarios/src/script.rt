@@ -1,6 +1,4 @@
 //! A scenario as a list of steps: what is done to machines, and what is expected of them. Machines are called by upstream's numbers, from 1.
-ghost use Rattle.messages.specs.Message.{Sendable};
-
 use crate::check::Check;
 use crate::net::Net;
 use crate::setup::Offer;
@@ -61,11 +59,17 @@ pub struct Script {
 
 fn perform(net: &mut Net, check: &mut Check, step: Step) -> anyhow::Result<()> {
     match step {
-        Step::Cut(a, b) => net.cut(a, b)?,
-        Step::Isolate(node) => net.isolate(node)?,
-        Step::Alone => net.isolate_all()?,
-        Step::LoseAppends => net.appends_drop = true,
-        Step::Heal => net.heal(),
+        Step::Cut(a, b) => net.cut(a, b),
+        Step::Isolate(node) => net.isolate(node),
+        Step::Alone => net.isolate_all(),
+        Step::LoseAppends => {
+            net.appends_drop = true;
+            Ok(())
+        }
+        Step::Heal => {
+            net.heal();
+            Ok(())
+        }
         Step::Log(node, terms, commit) => net.node(node)?.set_log(terms, commit),
         Step::Waits(node, term) => net.node(node)?.set_role(term, follower(false)),
         Step::Follows(node, term) => net.node(node)?.set_role(term, follower(true)),
@@ -73,19 +77,19 @@ fn perform(net: &mut Net, check: &mut Check, step: Step) -> anyhow::Result<()> {
         Step::Leads(node, term) => net.node(node)?.set_role(term, Role::Leader),
         Step::Progress(node, other, matched, next) => {
             let other = net.id(other);
-            net.node(node)?.set_progress(other, matched, next);
+            net.node(node)?.set_progress(other, matched, next)
         }
-        Step::Tick(node, times) => net.ticks(node, times)?,
-        Step::Propose(node, value) => net.propose(node, value.as_bytes())?,
-        Step::Restart(node) => net.node(node)?.restart()?,
-        Step::Stand(node) => net.stand(node)?,
-        Step::Campaign(node) => net.campaign(node)?,
-        Step::Ask(from, to, term, last) => net.post(from, to, ask(term, last))?,
-        Step::Vote(from, to, term) => net.post(from, to, vote(term, true))?,
-        Step::Deny(from, to, term) => net.post(from, to, vote(term, false))?,
-        Step::Ack(from, to, term, index) => net.post(from, to, ack(term, index))?,
-        Step::Reject(from, to, term, index) => net.post(from, to, reject(term, index))?,
-        Step::Here(from, to, term) => net.post(from, to, here(term))?,
+        Step::Tick(node, times) => net.ticks(node, times),
+        Step::Propose(node, value) => net.propose(node, value.as_bytes()),
+        Step::Restart(node) => net.node(node)?.restart(),
+        Step::Stand(node) => net.stand(node),
+        Step::Campaign(node) => net.campaign(node),
+        Step::Ask(from, to, term, last) => net.post(from, to, ask(term, last)),
+        Step::Vote(from, to, term) => net.post(from, to, vote(term, true)),
+        Step::Deny(from, to, term) => net.post(from, to, vote(term, false)),
+        Step::Ack(from, to, term, index) => net.post(from, to, ack(term, index)),
+        Step::Reject(from, to, term, index) => net.post(from, to, reject(term, index)),
+        Step::Here(from, to, term) => net.post(from, to, here(term)),
         Step::Append(from, to, term, (prev, prev_term), commit, entries) => net.post_append(
             from,
             to,
@@ -96,27 +100,27 @@ fn perform(net: &mut Net, check: &mut Check, step: Step) -> anyhow::Result<()> {
                 commit,
                 entries,
             },
-        )?,
-        Step::Bytes(from, to, text) => net.post_bytes(from, to, text.as_bytes())?,
-        Step::Forget(node) => net.node(node)?.forget_acts(),
-        Step::Is(node, expected) => check.state(net.node(node)?, expected)?,
-        Step::Did(node, expected) => check.acts(net.node(node)?, expected)?,
-        Step::Applied(node, expected) => check.applied(net.node(node)?, expected)?,
+        ),
+        Step::Bytes(from, to, text) => net.post_bytes(from, to, text.as_bytes()),
+        Step::Forget(node) => {
+            net.node(node)?.forget_acts();
+            Ok(())
+        }
+        Step::Is(node, expected) => check.state(net.node(node)?, expected),
+        Step::Did(node, expected) => check.acts(net.node(node)?, expected),
+        Step::Applied(node, expected) => check.applied(net.node(node)?, expected),
         Step::Knows(node, other, expected) => {
             let other = net.id(other);
-            check.progress(net.node(node)?, other, expected)?;
+            check.progress(net.node(node)?, other, expected)
         }
     }
-    Ok(())
 }
 
 fn follower(heard: bool) -> Role {
     Role::Follower(Ticks(0), heard)
 }
 
-fn ask(term: u64, last: (u64, u64)) -> Message<usize>
-    ensures { Sendable result }
-{
+fn ask(term: u64, last: (u64, u64)) -> Message<usize> {
     let (last_index, last_term) = last;
     Message::RequestVote {
         term: Term(term),
@@ -125,18 +129,14 @@ fn ask(term: u64, last: (u64, u64)) -> Message<usize>
     }
 }
 
-fn vote(term: u64, granted: bool) -> Message<usize>
-    ensures { Sendable result }
-{
+fn vote(term: u64, granted: bool) -> Message<usize> {
     Message::RequestVoteResponse {
         term: Term(term),
         granted,
     }
 }
 
-fn ack(term: u64, index: u64) -> Message<usize>
-    ensures { Sendable result }
-{
+fn ack(term: u64, index: u64) -> Message<usize> {
     Message::AppendResponse {
         term: Term(term),
         index: Index(index),
@@ -144,9 +144,7 @@ fn ack(term: u64, index: u64) -> Message<usize>
 }
 
 // The hint is the index itself, as in upstream's rows.
-fn reject(term: u64, index: u64) -> Message<usize>
-    ensures { Sendable result }
-{
+fn reject(term: u64, index: u64) -> Message<usize> {
     Message::AppendReject {
         term: Term(term),
         prev_index: Index(index),
@@ -154,9 +152,7 @@ fn reject(term: u64, index: u64) -> Message<usize>
     }
 }
 
-fn here(term: u64) -> Message<usize>
-    ensures { Sendable result }
-{
+fn here(term: u64) -> Message<usize> {
     Message::TermNotice { term: Term(term) }
 }
 

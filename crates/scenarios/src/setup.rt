@@ -1,7 +1,7 @@
 //! Memories and letters made by hand: a machine at a term, in a role, with a log; a letter from another.
 ghost use Rattle.messages.specs.Message.{Sendable};
 
-use crate::node::{Node, empty_memory};
+use crate::node::{Node, memory_of};
 use anyhow::ensure;
 use messages::encoder::encode;
 use messages::{MAX_LETTER_BYTES, Message};
@@ -9,7 +9,7 @@ use raft::header::{Machine, Role, load, store};
 use raft::rows::{DUE, MATCHED, NEXT};
 use raft_log::block::MAX_BLOCK_ENTRIES;
 use raft_log::entries::{append_value, commit_to};
-use raft_log::layout::Memory;
+use raft_log::layout::{MEMORY_WORDS, Memory};
 use raft_log::{Index, MachineId, Term};
 use std::alloc::{AllocError, Global};
 
@@ -44,9 +44,10 @@ fn fill(memory: &mut Memory, count: u64) {
 fn letter_of(heap: Global, message: Message<usize>, memory: &Memory) -> Result<Vec<u8>, AllocError>
     requires { Sendable message }
 {
-    let mut out = [0; MAX_LETTER_BYTES];
+    let mut out = vec![in heap; 0; MAX_LETTER_BYTES]?;
     let long = encode(message, memory, &mut out);
-    out[..long].to_vec(heap)
+    out.truncate(long);
+    Ok(out)
 }
 
 /// The bytes of an append.
@@ -56,9 +57,10 @@ pub fn append_letter(heap: Global, offer: Offer<'_>) -> anyhow::Result<Vec<u8>> 
         offer.prev <= LONGEST_LOG && entries <= MAX_BLOCK_ENTRIES,
         "an append beyond what is made by hand"
     );
-    let mut memory = empty_memory(heap)?;
-    fill(&mut memory, offer.prev);
-    add_entries(&mut memory, offer.prev as usize, offer.entries);
+    let mut words = vec![in heap; 0; MEMORY_WORDS]?;
+    let memory = memory_of(&mut words)?;
+    fill(memory, offer.prev);
+    add_entries(memory, offer.prev as usize, offer.entries);
     let message = Message::Append {
         term: Term(offer.term),
         prev_index: Index(offer.prev),
@@ -66,46 +68,57 @@ pub fn append_letter(heap: Global, offer: Offer<'_>) -> anyhow::Result<Vec<u8>> 
         commit: Index(offer.commit),
         entries,
     };
-    Ok(letter_of(heap, message, &memory)?)
+    Ok(letter_of(heap, message, memory)?)
 }
 
-/// The bytes of any other letter.
-pub fn letter(heap: Global, message: Message<usize>) -> Result<Vec<u8>, AllocError>
-    requires { Sendable message }
-{
-    let memory = empty_memory(heap)?;
-    letter_of(heap, message, &memory)
+/// The bytes of any other letter; none of an append.
+pub fn letter(heap: Global, message: Message<usize>) -> anyhow::Result<Vec<u8>> {
+    let mut words = vec![in heap; 0; MEMORY_WORDS]?;
+    let memory = memory_of(&mut words)?;
+    match message {
+        Message::Append { .. } => Ok(Vec::new(heap)),
+        _ => Ok(letter_of(heap, message, memory)?),
+    }
 }
 
 impl Node {
     /// A log with these terms, each entry with a value, decided up to `commit`.
-    pub fn set_log(&mut self, terms: &[u64], commit: u64) {
-        add_entries(&mut self.memory, 0, terms);
-        commit_to(&mut self.memory, Index(commit));
-        self.keep();
+    pub fn set_log(&mut self, terms: &[u64], commit: u64) -> anyhow::Result<()> {
+        let memory = self.memory()?;
+        add_entries(memory, 0, terms);
+        commit_to(memory, Index(commit));
+        self.keep()
     }
 
-    pub fn set_role(&mut self, term: u64, role: Role) {
-        let machine = load(&self.memory);
+    pub fn set_role(&mut self, term: u64, role: Role) -> anyhow::Result<()> {
+        let memory = self.memory()?;
+        let machine = load(memory);
         store(
-            &mut self.memory,
+            memory,
             Machine {
                 term: Term(term),
                 role,
                 ..machine
             },
         );
-        self.keep();
+        self.keep()
     }
 
     /// How far another machine is, as the leader knows.
-    pub fn set_progress(&mut self, other: MachineId, matched: u64, next: u64) {
+    pub fn set_progress(
+        &mut self,
+        other: MachineId,
+        matched: u64,
+        next: u64,
+    ) -> anyhow::Result<()> {
+        let memory = self.memory()?;
         let place = other.0 as usize;
-        if let Some(word) = self.memory[MATCHED..NEXT].get_mut(place) {
+        if let Some(word) = memory[MATCHED..NEXT].get_mut(place) {
             *word = matched;
         }
-        if let Some(word) = self.memory[NEXT..DUE].get_mut(place) {
+        if let Some(word) = memory[NEXT..DUE].get_mut(place) {
             *word = next;
         }
+        Ok(())
     }
 }

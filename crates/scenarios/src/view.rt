@@ -1,6 +1,6 @@
 //! What a memory and a letter say, as text.
 use messages::Message;
-use messages::decoder::decode;
+use messages::decoder::read;
 use raft::header::{ClusterSize, Role, load};
 use raft::rows::{DUE, MATCHED, NEXT};
 use raft_log::entries::{committed, last_index, slot, term};
@@ -22,7 +22,7 @@ pub struct LetterText<'a>(pub &'a [u8]);
 
 impl fmt::Display for LetterText<'_> {
     fn fmt<W: fmt::Write>(&self, f: &mut fmt::Formatter<W>) -> fmt::Result {
-        let Some(message) = decode(self.0) else {
+        let Some(message) = read(self.0) else {
             return f.write_str("no letter");
         };
         match message {

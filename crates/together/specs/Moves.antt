@@ -1,5 +1,6 @@
 -- What any kind of machine makes of an event, in parts that each kind has its own of.
-use Rattle.std.specs.Prelude.{◌≡◌, ℕ, Bool, true, false, List, length, Ok, Err, Some, None, Option, Result, nat_le}
+use Rattle.std.specs.Prelude.{◌≡◌, ℕ, Bool, true, false, ◌&&◌, List, [], length, Ok, Err, Some, None, Option, Result, ◌==◌, nat_le}
+use Rattle.raft_log.specs.Layout.{memory_words}
 use Rattle.raft.specs.declared.proposal.Refusal.{Refusal}
 use Rattle.raft.specs.Proposal.{refusal_number}
 use Rattle.together.specs.declared.Told.{Told}
@@ -49,6 +50,19 @@ event_in HowFar = said how_far
 event_in (Letter f bs) = came f.0 bs.now
 event_in Tick = tick
 event_in GoOn = next
+
+-- the bytes that come with an event
+abbrev pub event_bytes : Event → List ℕ
+event_bytes (said (propose v)) = v
+event_bytes (said how_far) = []
+event_bytes (came f bs) = bs
+event_bytes (on i n) = []
+event_bytes tick = []
+event_bytes next = []
+
+-- a step by the event itself is done: for a memory of the machine's own length, an event with up to 4,096 bytes, and at least 4,096 lent ones
+abbrev pub event_fits : ℕ → Event → ℕ → Bool
+event_fits words e lent = words == memory_words && (nat_le (length (event_bytes e)) 4096 && nat_le 4096 lent)
 
 -- the event of a number up to 5
 abbrev pub EventRead : (kind a b : ℕ) (bytes : List ℕ) → Option Happening → Type 0

@@ -1,7 +1,7 @@
 //! What happens to a machine, and what any kind of machine makes of it, one act at a time.
 ghost use Rattle.std.specs.Prelude.{◌≡◌, ◌≤◌, length};
 ghost use Rattle.together.specs.Entry.{Did};
-ghost use Rattle.together.specs.Moves.{Moves, moved, event_in, EventRead, ProposedBy, Stepped};
+ghost use Rattle.together.specs.Moves.{Moves, moved, event_in, event_bytes, event_fits, EventRead, ProposedBy, SteppedIf, Stepped};
 
 use super::Told;
 use raft::header::ClusterSize;
@@ -49,6 +49,16 @@ impl<'a> Event<'a> {
             4 => Some(Event::Tick),
             5 => Some(Event::GoOn),
             _ => None,
+        }
+    }
+
+    /// The bytes that come with it.
+    pub fn bytes(self) -> &'a [u8]
+        ensures { result.now ≡ event_bytes (event_in self.entry) }
+    {
+        match self {
+            Event::Propose(bytes) | Event::Letter { bytes, .. } => bytes,
+            Event::Power { .. } | Event::HowFar | Event::Tick | Event::GoOn => b"",
         }
     }
 }
@@ -107,6 +117,20 @@ pub fn react<E: Engine>(memory: &mut Memory, event: Event<'_>, out: &mut [u8]) -
         }
         Event::GoOn => E::go_on(memory, out),
     }
+}
+
+/// The same on what is lent. `No(0)`, and nothing changed, for a memory of another length, an event that comes with more than 4,096 bytes, or fewer than 4,096 lent.
+pub fn step_event<E: Engine>(memory: &mut [u64], event: Event<'_>, out: &mut [u8]) -> Told
+    ensures { SteppedIf (event_fits (length memory.old) (event_in event.entry) (length out.old)) E.moves memory.old (event_in event.entry) result memory.new out.old out.new }
+{
+    let (long, lent) = (event.bytes().len(), out.len());
+    if long > MAX_LETTER_BYTES || lent < MAX_LETTER_BYTES {
+        return Told::No(0);
+    }
+    let Some(memory) = memory.as_mut_array() else {
+        return Told::No(0);
+    };
+    react::<E>(memory, event, out)
 }
 
 /// The same by the event's number. `No(0)`, and nothing changed, for a memory of another length, a kind above 5, more than 4,096 bytes, or fewer than 4,096 lent.

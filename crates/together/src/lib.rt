@@ -3,13 +3,14 @@
 
 ghost use Rattle.std.specs.Prelude.{◌≡◌, [], ◌∷◌, length};
 ghost use Rattle.together.specs.Cases.{HalfIs};
-ghost use Rattle.together.specs.Entry.{HalfSays, half_fits, StepSays, step_fits, smaller, own};
+ghost use Rattle.together.specs.Entry.{HalfSays, half_fits, StepSays, EventSays, step_fits, smaller, own};
+ghost use Rattle.together.specs.Moves.{event_in, event_fits};
 
 pub mod alone;
 pub mod engine;
 
 use alone::Alone;
-use engine::step_of;
+use engine::{Event, step_of};
 use tracker::committed_index;
 
 /// The length of a machine's memory, in words.
@@ -70,6 +71,13 @@ pub fn step(memory: &mut [u64], kind: u64, a: u64, b: u64, bytes: &[u8], out: &m
     step_of::<Alone>(memory, kind, a, b, bytes, out)
 }
 
+/// One step by the event itself. `No(0)`, and nothing changed, for a memory of another length, an event that comes with more than 4,096 bytes, or fewer than 4,096 lent.
+pub fn step_event(memory: &mut [u64], event: Event<'_>, out: &mut [u8]) -> Told
+    ensures { EventSays memory.old (event_in event.entry) out.old (event_fits (length memory.old) (event_in event.entry) (length out.old)) result memory.new out.new }
+{
+    engine::step_event::<Alone>(memory, event, out)
+}
+
 /// The smaller of two counts.
 pub fn smaller_of(a: u64, b: u64) -> u64
     ensures { result ≡ smaller a b }
@@ -80,7 +88,7 @@ pub fn smaller_of(a: u64, b: u64) -> u64
 #[cfg(test)]
 mod tests {
     use super::*;
-    use engine::{Event, MAX_LETTER_BYTES, react};
+    use engine::MAX_LETTER_BYTES;
     use raft::header::ClusterSize;
     use raft_log::MachineId;
     use raft_log::layout::Memory;
@@ -116,7 +124,7 @@ mod tests {
         }
 
         fn told(&mut self, event: Event<'_>) -> Told {
-            react::<Alone>(&mut self.memory, event, &mut *self.out)
+            step_event(&mut *self.memory, event, &mut *self.out)
         }
 
         // An event by its number.

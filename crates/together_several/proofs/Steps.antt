@@ -6,7 +6,7 @@ use Rattle.together.specs.House.{propose, how_far}
 use Rattle.together.specs.Promise.{Event, on, said, came, tick, next, Step}
 use Rattle.together.specs.Entry.{event_of, Did}
 use Rattle.together_several.specs.Machine.{own_step, after_proposal as after_own}
-use Rattle.together_several.specs.Entry.{StepSays, own}
+use Rattle.together_several.specs.Entry.{StepSays, EventSays, own}
 use Rattle.together.specs.Moves.{moved, after_proposal, SteppedIf}
 use Rattle.together_several.specs.Several.{several}
 
@@ -28,3 +28,8 @@ pub says : (m : List ℕ) (kind a b : ℕ) (bytes out : List ℕ) (fits : Bool) 
 unfolding StepSays
 says m kind a b bytes out true r m₁ out₁ h = subst (λ (s : Step). Did s r m₁ out out₁) (moved_is m (event_of kind a b bytes)) h
 says m kind a b bytes out false r m₁ out₁ h = h
+
+pub event_says : (m : List ℕ) (e : Event) (out : List ℕ) (fits : Bool) (r : Told) (m₁ out₁ : List ℕ) → SteppedIf fits several m e r m₁ out out₁ → EventSays m e out fits r m₁ out₁
+unfolding EventSays
+event_says m e out true r m₁ out₁ h = subst (λ (s : Step). Did s r m₁ out out₁) (moved_is m e) h
+event_says m e out false r m₁ out₁ h = h

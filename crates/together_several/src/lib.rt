@@ -2,7 +2,8 @@
 #![tactic(auto)]
 
 ghost use Rattle.std.specs.Prelude.{◌≡◌, length};
-ghost use Rattle.together_several.specs.Entry.{StepSays, step_fits, own};
+ghost use Rattle.together_several.specs.Entry.{StepSays, EventSays, step_fits, own};
+ghost use Rattle.together.specs.Moves.{event_in, event_fits};
 
 pub mod several;
 #[cfg(test)]
@@ -10,7 +11,7 @@ mod tests;
 
 use several::Several;
 use together::Told;
-use together::engine::step_of;
+use together::engine::{self, Event, step_of};
 
 /// The length of a machine's memory, in words.
 pub const MEMORY_WORDS: usize = raft_log::layout::MEMORY_WORDS;
@@ -29,4 +30,11 @@ pub fn step(memory: &mut [u64], kind: u64, a: u64, b: u64, bytes: &[u8], out: &m
     ensures { StepSays memory.old kind a b bytes.now out.old (step_fits memory.old kind bytes.now out.old) result memory.new out.new }
 {
     step_of::<Several>(memory, kind, a, b, bytes, out)
+}
+
+/// One step by the event itself. `No(0)`, and nothing changed, for a memory of another length, an event that comes with more than 4,096 bytes, or fewer than 4,096 lent.
+pub fn step_event(memory: &mut [u64], event: Event<'_>, out: &mut [u8]) -> Told
+    ensures { EventSays memory.old (event_in event.entry) out.old (event_fits (length memory.old) (event_in event.entry) (length out.old)) result memory.new out.new }
+{
+    engine::step_event::<Several>(memory, event, out)
 }

@@ -7,7 +7,7 @@ use raft_log::layout::Memory;
 use std::alloc::{AllocError, Global};
 use std::collections::VecDeque;
 use std::test::Fail;
-use together::engine::{Event, MAX_LETTER_BYTES, react};
+use together::engine::{Event, MAX_LETTER_BYTES};
 
 // Above any number of acts that an event begins, and of letters that it leads to.
 const MAX_ACTS: u64 = 5000;
@@ -28,7 +28,7 @@ impl Lent {
     }
 
     fn told(&mut self, event: Event<'_>) -> Told {
-        react::<Several>(&mut self.memory, event, &mut *self.out)
+        step_event(&mut *self.memory, event, &mut *self.out)
     }
 
     // An event by its number.

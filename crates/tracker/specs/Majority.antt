@@ -1,5 +1,5 @@
 -- What more than half of the voters have. Assumes nothing: these are definitions.
-use Rattle.std.specs.Prelude.{◌≡◌, ℕ, ◌-◌, ◌*◌, ◌<◌, ◌≤◌, Bool, cond, ◌||◌, ◌⊎◌, List, length, Some, None, count_by, Option, ◌==◌, nat_le, nat_lt}
+use Rattle.std.specs.Prelude.{◌≡◌, ℕ, ◌-◌, ◌*◌, ◌<◌, ◌≤◌, Bool, cond, ◌||◌, ◌&&◌, ◌⊎◌, List, length, Some, None, count_by, Option, ◌==◌, nat_le, nat_lt}
 use Rattle.std.specs.List.{Contains}
 use Rattle.raft_log.specs.declared.Index.{Index}
 use Rattle.tracker.specs.declared.majority.VoteResult.{VoteResult}
@@ -12,6 +12,10 @@ reached indices k = count_by (nat_le k) indices
 -- whether more than half of them have
 abbrev pub quorum_has : List ℕ → ℕ → Bool
 quorum_has indices k = nat_lt (length indices) (2 * reached indices k)
+
+-- the larger of the best so far and k, if more than half have that
+abbrev pub better : List ℕ → ℕ → ℕ → ℕ
+better indices best k = cond (nat_lt best k && quorum_has indices k) k best
 
 -- more than half of them have
 abbrev pub Quorum : List ℕ → ℕ → Type 0

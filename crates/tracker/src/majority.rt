@@ -1,6 +1,6 @@
 //! What more than half of the voters have.
 ghost use Rattle.std.specs.Prelude.{◌≡◌, ◌≤◌, length};
-ghost use Rattle.tracker.specs.Majority.{quorum_has, CommittedSays, vote_result};
+ghost use Rattle.tracker.specs.Majority.{quorum_has, better, CommittedSays, vote_result};
 
 use raft_log::Index;
 
@@ -30,20 +30,31 @@ fn quorum_has(indices: &[u64], index: u64) -> bool
     reached > indices.len() / 2
 }
 
+// The larger of the best so far and `index`, if more than half have that. They are counted only where it would be larger.
+fn better(indices: &[u64], best: u64, index: u64) -> u64
+    requires { length indices.now ≤ 1024 }
+    ensures { result ≡ better indices.now best index }
+{
+    if best < index && quorum_has(indices, index) {
+        index
+    } else {
+        best
+    }
+}
+
 /// The largest index that more than half have; none for none of them, or for more than 1,024.
 #[tactic(auto, unfolding(crate::specs::Majority::CommittedSays))]
 pub fn committed_index(indices: &[u64]) -> Option<Index>
     ensures { CommittedSays indices.now result }
 {
-    if indices.len() > MOST_VOTERS {
+    if indices.is_empty() || indices.len() > MOST_VOTERS {
         return None;
     }
-    indices
+    let best = indices
         .iter()
         .copied()
-        .filter(|index| quorum_has(indices, *index))
-        .max()
-        .map(Index)
+        .fold(0, |best, index| better(indices, best, index));
+    Some(Index(best))
 }
 
 /// How the vote of `size` voters stands, of whom so many granted and so many refused.

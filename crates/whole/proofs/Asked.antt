@@ -6,6 +6,7 @@ use Rattle.raft.specs.declared.proposal.Refusal.{Refusal}
 use Rattle.raft.specs.declared.proposal.Refusal.TheVariants.{NotNow, TooLong, Full}
 use Rattle.raft.specs.Proposal.{refusal_number}
 use Rattle.together.specs.House.{pick, or}
+use Rattle.together.proofs.Lists.{no_way}
 use Rattle.together.proofs.Smalls.{Kept}
 
 -- why a proposal is refused
@@ -47,6 +48,21 @@ module _ (m v : List ℕ) (leads : Type 0) (q : Result (List ℕ) Refusal) (t : 
   pub taken_by : length v ≤ 256 → q ≡ if_room → value_fits m (length v) ≡ true → if_short ≡ Ok t
   taken_by short e f =
       cond-false (ltb 256 (length v)) (Err TooLong) q (le-ltb 256 (length v) short) ∙ (e ∙ cond-true (value_fits m (length v)) (Ok t) (Err Full) f)
+
+  -- who answers as a leader answers no NotNow
+  pub not_now_by : q ≡ if_room → if_short ≡ Err NotNow → ⊥
+  not_now_by e n =
+      elim (cases_Bool (ltb 256 (length v))) [
+        | inl b ↦ let z : Err TooLong ≡ Err NotNow = sym (cond-true (ltb 256 (length v)) (Err TooLong) q b) ∙ n in no_way cc
+        | inr b ↦ by_room (sym (cond-false (ltb 256 (length v)) (Err TooLong) q b ∙ e) ∙ n)
+      ]
+    where
+      by_room : if_room ≡ Err NotNow → ⊥
+      by_room k =
+          elim (cases_Bool (value_fits m (length v))) [
+            | inl f ↦ let z : Ok t ≡ Err NotNow = sym (cond-true (value_fits m (length v)) (Ok t) (Err Full) f) ∙ k in no_way cc
+            | inr f ↦ let z : Err Full ≡ Err NotNow = sym (cond-false (value_fits m (length v)) (Ok t) (Err Full) f) ∙ k in no_way cc
+          ]
 
 -- memory after a proposal that was taken is kept small
 abbrev pub KeptProposed : List ℕ → Result (List ℕ) Refusal → Type 0

@@ -1,5 +1,5 @@
 -- A run of an engine whose acts are planned: what is still to be done is a list that memory determines, and each step does the first of them.
-use Rattle.std.proofs.Common.{◌≡◌, ℕ, zero, suc, ◌<◌, Bool, true, false, ◌&&◌, eqb, leb, ◌⊎◌, List, [], ◌∷◌, ◌++◌, length, sym, refl, ap, ◌∙◌, subst, inl, inr, arith}
+use Rattle.std.proofs.Common.{◌≡◌, ℕ, zero, suc, ◌<◌, ◌≤◌, Bool, true, false, ◌&&◌, eqb, leb, ◌⊎◌, List, [], ◌∷◌, ◌++◌, length, sym, refl, ap, ◌∙◌, subst, inl, inr, arith}
 use Rattle.std.proofs.lemmas.List.{append_assoc, append-nil}
 use Rattle.raft.specs.declared.proposal.Refusal.{Refusal}
 use Rattle.raft.specs.declared.proposal.Refusal.TheVariants.{NotNow, TooLong, Full}
@@ -131,11 +131,25 @@ end_done zero as₁ l = absurd (omega arith)
 end_done (suc n) [] l = refl
 end_done (suc n) (a ∷ as₁) l = end_done n as₁ (omega arith)
 
+-- with fewer it is cut
+pub end_cut : (n : ℕ) (as₁ : List Act) → n ≤ length as₁ → end_after n as₁ ≡ 1000
+unfolding end_after
+end_cut zero as₁ l = refl
+end_cut (suc n) [] l = absurd (omega arith)
+end_cut (suc n) (a ∷ as₁) l = end_cut n as₁ (omega arith)
+
 pub end_either : (n : ℕ) (as₁ : List Act) → (end_after n as₁ ≡ 0) ⊎ (end_after n as₁ ≡ 1000)
 unfolding end_after
 end_either zero as₁ = inr refl
 end_either (suc n) [] = inl refl
 end_either (suc n) (a ∷ as₁) = end_either n as₁
+
+pub first_all : (n : ℕ) (as₁ : List Act) → length as₁ ≤ n → first_acts n as₁ ≡ as₁
+unfolding first_acts
+first_all zero [] l = refl
+first_all zero (a ∷ as₁) l = absurd (omega arith)
+first_all (suc n) [] l = refl
+first_all (suc n) (a ∷ as₁) l = ap (λ x. a ∷ x) (first_all n as₁ (omega arith))
 
 -- WHAT A MEMORY DOES NEXT: an act of its plan, and the plan goes on from the memory after it; or it is done
 pub data Turn (go : List ℕ → Step) (fit : List ℕ → Type 0) (acts : List ℕ → List Act) (m : List ℕ) : Type 0 where

@@ -1,11 +1,12 @@
 -- What becomes of a proposal to the machine.
-use Rattle.std.proofs.Common.{◌≡◌, ◌≤◌, ℕ, true, List, length, Ok, refl, ap, inl, inr}
+use Rattle.std.proofs.Common.{◌≡◌, ◌≤◌, ℕ, true, List, length, Ok, Err, refl, ap, inl, inr}
 use Rattle.raft_log.specs.Entries.{value_fits}
 use Rattle.solo.specs.declared.header.Role.{Role}
 use Rattle.solo.specs.declared.header.Role.TheVariants.{Follower, Candidate, Leader}
+use Rattle.raft.specs.declared.proposal.Refusal.TheVariants.{NotNow}
 use Rattle.solo.specs.Header.{loaded}
 use Rattle.solo.specs.Proposal.{taken, propose_as, proposed}
-use Rattle.whole.proofs.Asked.{Asked, asked_by, taken_by}
+use Rattle.whole.proofs.Asked.{Asked, asked_by, taken_by, not_now_by}
 
 abbrev pub Asks : List ℕ → List ℕ → Type 0
 Asks m v = Asked m v ((loaded m).role ≡ Leader) (proposed m v) (taken m (loaded m) v)
@@ -18,6 +19,12 @@ asked m v = by (loaded m).role refl
     by (Follower w) e = asked_by m v ((loaded m).role ≡ Leader) (propose_as m (loaded m) (loaded m).role v) (taken m (loaded m) v) (inl (ap (λ (r : Role). propose_as m (loaded m) r v) e))
     by (Candidate w) e = asked_by m v ((loaded m).role ≡ Leader) (propose_as m (loaded m) (loaded m).role v) (taken m (loaded m) v) (inl (ap (λ (r : Role). propose_as m (loaded m) r v) e))
     by Leader e = asked_by m v ((loaded m).role ≡ Leader) (propose_as m (loaded m) (loaded m).role v) (taken m (loaded m) v) (inr (e, ap (λ (r : Role). propose_as m (loaded m) r v) e))
+
+-- who answers NotNow does not lead
+pub asked_leads : (m v : List ℕ) → proposed m v ≡ Err NotNow → (loaded m).role ≡ Leader → ⊥
+unfolding proposed
+asked_leads m v n leads =
+    not_now_by m v ((loaded m).role ≡ Leader) (propose_as m (loaded m) (loaded m).role v) (taken m (loaded m) v) (ap (λ (r : Role). propose_as m (loaded m) r v) leads) n
 
 -- a leader with room takes it
 pub leader_takes : (m v : List ℕ) → length v ≤ 256 → (loaded m).role ≡ Leader → value_fits m (length v) ≡ true → proposed m v ≡ Ok (taken m (loaded m) v)

@@ -1,6 +1,7 @@
 -- What the acts leave of a memory as it is, and the letters that are due in it.
-use Rattle.std.proofs.Common.{◌≡◌, ℕ, zero, suc, ◌+◌, ◌-◌, ◌<◌, ◌≤◌, true, ◌≢◌, List, [], ◌∷◌, ◌++◌, length, get_or, set, Some, None, Option, sym, refl, ap, ◌∙◌, arith}
+use Rattle.std.proofs.Common.{◌≡◌, ℕ, zero, suc, ◌+◌, ◌-◌, ◌<◌, ◌≤◌, true, ◌≢◌, List, [], ◌∷◌, ◌++◌, length, get_or, set, Some, None, Option, sym, refl, ap, ◌∙◌, inl, inr, arith}
 use Rattle.std.proofs.lemmas.List.{length-set, get_or-set_same, get_or-set_other}
+use Rattle.std.proofs.lemmas.Bool.{cases_eq}
 use Rattle.raft_log.specs.Layout.{memory_words}
 use Rattle.raft_log.specs.Entries.{last_index, commit_index, decided, applied_number}
 use Rattle.raft_log.specs.View.{log_of}
@@ -22,7 +23,7 @@ use Rattle.together.proofs.Smalls.{small_word, small_words}
 use Rattle.whole_several.proofs.Smalls.{loaded_small}
 use Rattle.raft.specs.Say.{due_of}
 use Rattle.raft.specs.Outbox.{due_to, prev_of, count_of, letter_made, Mail, mail, mail_at, mail_from, mail_due, flown_to}
-use Rattle.together.proofs.Lists.{head_same, tail_same, not_same}
+use Rattle.together.proofs.Lists.{no_way, head_same, tail_same, not_same}
 
 -- WHAT NO ACT CHANGES: who the machine is, its term and role, its rows, its log and what of it is decided
 pub record Still (m m₁ : List ℕ) : Type 0 where
@@ -33,6 +34,21 @@ pub record Still (m m₁ : List ℕ) : Type 0 where
   pub role : (loaded m₁).role ≡ (loaded m).role
   pub rows : (i : ℕ) → 8 ≤ i → i < 29 → get_or m₁ i 0 ≡ get_or m i 0
   pub behind : (i : ℕ) → 36 ≤ i → i ≢ 66 → get_or m₁ i 0 ≡ get_or m i 0
+
+pub still : (m : List ℕ) → Still m m
+still m = record { long = refl; size = refl; id = refl; term = refl; role = refl; rows = λ i a b. refl; behind = λ i a b. refl }
+
+pub then_still : {a b c : List ℕ} → Still a b → Still b c → Still a c
+then_still p q =
+    record {
+      long = q.long ∙ p.long;
+      size = q.size ∙ p.size;
+      id = q.id ∙ p.id;
+      term = q.term ∙ p.term;
+      role = q.role ∙ p.role;
+      rows = λ i a b. q.rows i a b ∙ p.rows i a b;
+      behind = λ i a b. q.behind i a b ∙ p.behind i a b;
+    }
 
 module _ (m m₁ : List ℕ) (s : Still m m₁) where
   pub still_entries : SameEntries m m₁
@@ -133,6 +149,39 @@ unfolding mail_from
 flies_first m long j zero few l ls e = absurd (not_same (sym e))
 flies_first m long j (suc n) few l ls e =
     flies_by m long j n few l ls (due_to m j) refl e (λ e₁. flies_first m long (suc j) n (omega arith) l ls e₁)
+
+-- NO LETTER IS DUE: no word says that one is
+mail_at_none : (m : List ℕ) (j : ℕ) (o : Option Due) (ls : List Mail) → mail_at m (loaded m) j o ++ ls ≡ [] → (o ≡ None) × (ls ≡ [])
+mail_at_none m j (Some d) ls e = absurd (not_same e)
+mail_at_none m j None ls e = (refl, e)
+
+none_from : (m : List ℕ) (j n : ℕ) → mail_from m j n ≡ [] → (i : ℕ) → j ≤ i → i < j + n → due_to m i ≡ None
+unfolding mail_from
+none_from m j zero e i a b = absurd (omega arith)
+none_from m j (suc n) e i a b =
+    let p = mail_at_none m j (due_to m j) (mail_from m (suc j) n) e in
+    elim (cases_eq i j) [
+      | inl q ↦ ap (due_to m) q ∙ p.0
+      | inr ne ↦ none_from m (suc j) n p.1 i (omega arith) (omega arith)
+    ]
+
+pub quiet_none : (m : List ℕ) → mail_due m ≡ [] → (j : ℕ) → j < 7 → due_to m j ≡ None
+quiet_none m e j l = none_from m 0 7 e j (omega arith) l
+
+some_not_none : {A B : Type 0} (x : A) → Some x ≡ None → B
+some_not_none x e = no_way cc
+
+-- a word up to 7 that says of no letter is 0
+pub no_due_zero : (w : ℕ) → w ≤ 7 → due_of w ≡ None → w ≡ 0
+no_due_zero zero l e = refl
+no_due_zero (suc zero) l e = some_not_none Append e
+no_due_zero (suc (suc zero)) l e = some_not_none RequestVote e
+no_due_zero (suc (suc (suc zero))) l e = some_not_none TellTerm e
+no_due_zero (suc (suc (suc (suc zero)))) l e = some_not_none Grant e
+no_due_zero (suc (suc (suc (suc (suc zero))))) l e = some_not_none Deny e
+no_due_zero (suc (suc (suc (suc (suc (suc zero)))))) l e = some_not_none Accept e
+no_due_zero (suc (suc (suc (suc (suc (suc (suc zero))))))) l e = some_not_none Reject e
+no_due_zero (suc (suc (suc (suc (suc (suc (suc (suc w)))))))) l e = absurd (omega arith)
 
 -- letters to machines, that can be written
 abbrev pub MailsFit : List Mail → Type 0
