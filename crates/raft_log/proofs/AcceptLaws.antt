@@ -196,6 +196,10 @@ module _ (m : List ℕ) (p q k : ℕ) (es : List Entry) (d : Tidy m) (v : Valid 
   pub accepted_merge : Agreeing (log_of m) p es → log_of (accepted m p k es) ≡ merge (log_of m) p es
   accepted_merge a = accepted_log ∙ spliced_merge (log_of m) p es a
 
+  pub length_accepted : length (accepted m p k es) ≡ length m
+  unfolding accepted
+  length_accepted = length_commit_noted (merged m p es) told changed.tidy.long ∙ (changed.tidy.long ∙ sym d.entries.long)
+
   -- the machine's own words, and what was applied, stay
   pub accepted_header : (i : ℕ) → i < 72 → i ≢ 64 → i ≢ 65 → get_or (accepted m p k es) i 0 ≡ get_or m i 0
   unfolding accepted

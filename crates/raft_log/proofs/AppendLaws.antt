@@ -70,6 +70,9 @@ module _ (m : List ℕ) (i t n : ℕ) (long : length m ≡ memory_words) (some :
   pub pushed_held : (k : ℕ) → value_at pushed k ≡ value_at m k
   pushed_held k = value_alike m pushed k (λ j a b. pushed_other j (omega arith) (omega arith) (omega arith))
 
+  pub pushed_applied : applied_number pushed ≡ applied_number m
+  pushed_applied = same_applied m pushed (pushed_other 66 (omega arith) (omega arith) (omega arith))
+
 -- a value that is put into a slot changes no entry
 module _ (m : List ℕ) (k : ℕ) (v : List ℕ) where
   pub put_last : last_index (value_put m k v) ≡ last_index m
@@ -128,6 +131,22 @@ module _ (m : List ℕ) (t : ℕ) (v : List ℕ) (long : length m ≡ memory_wor
   unfolding value_appended
   appended_last = pushed_last m₁ (last_index m + 1) t (values m + 1) put_long one within
 
+  pub appended_term : term_at (value_appended m t v) (last_index m + 1) ≡ t
+  unfolding value_appended
+  appended_term = pushed_term m₁ (last_index m + 1) t (values m + 1) put_long one within
+
+  pub appended_terms : (i : ℕ) → i ≤ last_index m → term_at (value_appended m t v) i ≡ term_at m i
+  unfolding value_appended
+  appended_terms i b =
+      pushed_terms m₁ (last_index m + 1) t (values m + 1) put_long one within i (omega arith) (omega (arith, put_last m (values m) v))
+      ∙ put_terms m (values m) v i b
+
+  pub appended_numbers : (i : ℕ) → i ≤ last_index m → number_at (value_appended m t v) i ≡ number_at m i
+  unfolding value_appended
+  appended_numbers i b =
+      pushed_numbers m₁ (last_index m + 1) t (values m + 1) put_long one within i (omega arith) (omega (arith, put_last m (values m) v))
+      ∙ put_numbers m (values m) v i b
+
   pub appended_values : values (value_appended m t v) ≡ values m + 1
   unfolding value_appended
   appended_values = pushed_values m₁ (last_index m + 1) t (values m + 1) put_long one within (omega (arith, fits_value))
@@ -167,6 +186,10 @@ module _ (m : List ℕ) (t : ℕ) (long : length m ≡ memory_words) (fits : emp
   unfolding empty_appended
   empty_last = pushed_last m (empty_place m) t (values m) long empty_some empty_room
 
+  pub empty_term : term_at (empty_appended m t) (empty_place m) ≡ t
+  unfolding empty_appended
+  empty_term = pushed_term m (empty_place m) t (values m) long empty_some empty_room
+
   pub empty_values : values (empty_appended m t) ≡ values m
   unfolding empty_appended
   empty_values = pushed_values m (empty_place m) t (values m) long empty_some empty_room (number_most m (last_index m))
@@ -181,6 +204,10 @@ module _ (m : List ℕ) (t : ℕ) (long : length m ≡ memory_words) (fits : emp
   pub empty_numbers : (j : ℕ) → j < empty_place m → j ≤ last_index m → number_at (empty_appended m t) j ≡ number_at m j
   unfolding empty_appended
   empty_numbers j l b = pushed_numbers m (empty_place m) t (values m) long empty_some empty_room j l b
+
+  pub empty_terms : (j : ℕ) → j < empty_place m → j ≤ last_index m → term_at (empty_appended m t) j ≡ term_at m j
+  unfolding empty_appended
+  empty_terms j l b = pushed_terms m (empty_place m) t (values m) long empty_some empty_room j l b
 
 -- ROOM: no two empty entries stand side by side, so there are few
 abbrev pub Roomy : List ℕ → Type 0

@@ -41,6 +41,9 @@ length_laid out i bs l =
 pub word_back : (w : ℕ) (bs : List ℕ) → w < 18446744073709551616 → word_at (eight w ++ bs) 0 ≡ w
 word_back w bs h = omega arith
 
+pub pair_back : (w : ℕ) (bs : List ℕ) → w < 65536 → pair_at (two w ++ bs) 0 ≡ w
+pair_back w bs h = omega arith
+
 -- reading at a place is reading at the front of what is left
 pub word_drop : (bs : List ℕ) (k i : ℕ) → word_at (drop k bs) i ≡ word_at bs (k + i)
 word_drop bs k i =
