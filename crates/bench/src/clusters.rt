@@ -1,5 +1,6 @@
 //! Clusters in one process: letters as bytes from one machine to another, nothing on disk. They elect machine 1 % size and decide values of 16 bytes.
 use crate::VALUE;
+use crate::memory::memory_of;
 use crate::timing::Work;
 use raft::header::ClusterSize;
 use raft_log::MachineId;
@@ -7,7 +8,7 @@ use std::alloc::{AllocError, Global};
 use std::mem;
 use together::Told;
 use together::engine::{Event, MAX_LETTER_BYTES};
-use together_several::{MEMORY_WORDS, step_event};
+use together_several::{MEMORY_WORDS, react};
 
 const DECISIONS: u64 = 4000;
 // Till the owner of term 1 stands.
@@ -61,11 +62,17 @@ impl Post {
     }
 }
 
+// The number of the value that was applied now, if it is the one behind the last.
+fn next_in_turn(last: Option<u64>, number: u64) -> Option<u64> {
+    let next = last?.saturating_add(1);
+    Some(next).filter(|next| *next == number)
+}
+
 #[derive(Drop)]
 pub struct Machine {
     id: MachineId,
     pub memory: Vec<u64>,
-    out: Vec<u8>,
+    pub out: Box<[u8; MAX_LETTER_BYTES]>,
     // The number of the value that it applied last; none once one came out of turn.
     applied: Option<u64>,
 }
@@ -75,7 +82,7 @@ impl Machine {
         Ok(Machine {
             id,
             memory: vec![in heap; 0; MEMORY_WORDS]?,
-            out: vec![in heap; 0; MAX_LETTER_BYTES]?,
+            out: Box::new(heap, [0; MAX_LETTER_BYTES])?,
             applied: Some(0),
         })
     }
@@ -85,30 +92,22 @@ impl Machine {
         self.applied = Some(0);
     }
 
-    fn note_applied(&mut self, number: u64) {
-        let next = self.applied.map(|last| last.saturating_add(1));
-        self.applied = next.filter(|next| *next == number);
-    }
-
-    /// The first act of an event.
-    pub fn told(&mut self, event: Event<'_>) -> Told {
-        step_event(&mut self.memory, event, &mut self.out)
-    }
-
     // An event, with all its acts; nothing is kept at a settle, as there is no disk.
     fn event(&mut self, post: &mut Post, event: Event<'_>) -> Result<(), AllocError> {
-        let mut told = self.told(event);
+        let memory = memory_of(&mut self.memory)?;
+        let out = &mut *self.out;
+        let mut told = react(memory, event, out);
         for _ in 0..MAX_ACTS {
             match told {
                 Told::Flies(to, long) => {
-                    let letter = self.out.get(..long as usize).unwrap_or(b"");
+                    let letter = out.get(..long as usize).unwrap_or(b"");
                     post.put(self.id, MachineId(to), letter)?;
                 }
-                Told::Applies(number, _) => self.note_applied(number),
+                Told::Applies(number, _) => self.applied = next_in_turn(self.applied, number),
                 Told::Settle => {}
                 Told::Shows(_) | Told::Done | Told::No(_) => return Ok(()),
             }
-            told = self.told(Event::GoOn);
+            told = react(memory, Event::GoOn, out);
         }
         Ok(())
     }

@@ -22,7 +22,7 @@ const BLOCKS: u64 = 534;
 const BLOCK_ENTRIES: u64 = MAX_BLOCK_ENTRIES as u64;
 
 // A log of entries with a value and empty ones in turn, as many as agree of term 1.
-fn log(heap: Global, entries: u64, rest: Term) -> anyhow::Result<Vec<u64>> {
+fn log(heap: Global, entries: u64, rest: Term) -> Result<Vec<u64>, AllocError> {
     let mut words = vec![in heap; 0; MEMORY_WORDS]?;
     let memory = memory_of(&mut words)?;
     for i in 0..entries {
@@ -71,7 +71,7 @@ pub struct Conflict {
 
 impl Conflict {
     /// The blocks are those of a log that is of term 1 throughout.
-    pub fn new(heap: Global) -> anyhow::Result<Conflict> {
+    pub fn new(heap: Global) -> Result<Conflict, AllocError> {
         let mut other = log(heap, BLOCKS * BLOCK_ENTRIES, Term(1))?;
         let other = memory_of(&mut other)?;
         let blocks = (0..BLOCKS).map(|i| Placed::new(heap, other, Index(i * BLOCK_ENTRIES)));
@@ -108,7 +108,7 @@ pub struct Hint {
 }
 
 impl Hint {
-    pub fn new(heap: Global) -> anyhow::Result<Hint> {
+    pub fn new(heap: Global) -> Result<Hint, AllocError> {
         Ok(Hint {
             memory: log(heap, ENTRIES, Term(2))?,
         })

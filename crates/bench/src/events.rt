@@ -9,9 +9,10 @@ use messages::{MAX_LETTER_BYTES, Message};
 use raft::rows::{MATCHED, NEXT};
 use raft_log::layout::{APPLIED, COMMITTED, LAST_INDEX, MEMORY_WORDS, Memory};
 use raft_log::{Index, MachineId, Term};
-use std::alloc::Global;
+use std::alloc::{AllocError, Global};
 use together::Told;
 use together::engine::Event;
+use together_several::react;
 
 const OPERATIONS: u64 = 1000;
 
@@ -64,7 +65,7 @@ pub struct Reaction {
 }
 
 // The bytes of an acknowledgement in term 1.
-fn acknowledgement(heap: Global, index: Index) -> anyhow::Result<Vec<u8>> {
+fn acknowledgement(heap: Global, index: Index) -> Result<Vec<u8>, AllocError> {
     let mut words = vec![in heap; 0; MEMORY_WORDS]?;
     let memory = memory_of(&mut words)?;
     let mut out = vec![in heap; 0; MAX_LETTER_BYTES]?;
@@ -102,26 +103,25 @@ impl Reaction {
     }
 
     // How many letters flew.
-    fn letters(&mut self) -> u64 {
-        let mut told = self.leader.told(self.kind.event(&self.letter));
+    fn letters(&mut self) -> Result<u64, AllocError> {
+        let memory = memory_of(&mut self.leader.memory)?;
+        let out = &mut *self.leader.out;
+        self.kind.set_back(memory, self.entries);
+        let mut told = react(memory, self.kind.event(&self.letter), out);
         let mut letters = 0u64;
         for _ in 0..MAX_ACTS {
             match told {
                 Told::Flies(_, _) => letters = letters.saturating_add(1),
                 Told::Applies(_, _) | Told::Settle => {}
-                Told::Shows(_) | Told::Done | Told::No(_) => return letters,
+                Told::Shows(_) | Told::Done | Told::No(_) => return Ok(letters),
             }
-            told = self.leader.told(Event::GoOn);
+            told = react(memory, Event::GoOn, out);
         }
-        letters
+        Ok(letters)
     }
 
     fn is_right(&mut self) -> bool {
-        let Ok(memory) = memory_of(&mut self.leader.memory) else {
-            return false;
-        };
-        self.kind.set_back(memory, self.entries);
-        self.letters() == 2
+        self.letters() == Ok(2)
     }
 }
 

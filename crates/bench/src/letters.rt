@@ -11,7 +11,7 @@ use raft_log::block::MAX_BLOCK_ENTRIES;
 use raft_log::entries::append_value;
 use raft_log::layout::{LAST_INDEX, MEMORY_WORDS, Memory};
 use raft_log::{Index, Term};
-use std::alloc::Global;
+use std::alloc::{AllocError, Global};
 
 const VALUE: [u8; 256] = [7; 256];
 
@@ -38,7 +38,7 @@ fn full_append(term: Term, memory: &Memory, out: &mut [u8]) -> usize
 }
 
 // A log of as many entries as a letter takes.
-fn full_log(heap: Global) -> anyhow::Result<Vec<u64>> {
+fn full_log(heap: Global) -> Result<Vec<u64>, AllocError> {
     let mut words = vec![in heap; 0; MEMORY_WORDS]?;
     let memory = memory_of(&mut words)?;
     for _ in 0..MAX_BLOCK_ENTRIES {
@@ -48,7 +48,7 @@ fn full_log(heap: Global) -> anyhow::Result<Vec<u64>> {
 }
 
 // The bytes of a full letter.
-fn letter(heap: Global, term: Term) -> anyhow::Result<Vec<u8>> {
+fn letter(heap: Global, term: Term) -> Result<Vec<u8>, AllocError> {
     let mut words = full_log(heap)?;
     let memory = memory_of(&mut words)?;
     let mut out = vec![in heap; 0; MAX_LETTER_BYTES]?;
@@ -64,7 +64,7 @@ pub struct Encode {
 }
 
 impl Encode {
-    pub fn new(heap: Global) -> anyhow::Result<Encode> {
+    pub fn new(heap: Global) -> Result<Encode, AllocError> {
         Ok(Encode {
             memory: full_log(heap)?,
             out: vec![in heap; 0; MAX_LETTER_BYTES]?,
@@ -113,7 +113,7 @@ pub struct Decode {
 }
 
 impl Decode {
-    pub fn new(heap: Global) -> anyhow::Result<Decode> {
+    pub fn new(heap: Global) -> Result<Decode, AllocError> {
         let letters = (0..LETTERS).map(|term| letter(heap, Term(term)));
         Ok(Decode {
             letters: letters.try_collect(heap)?,
@@ -143,7 +143,7 @@ pub struct Copying {
 }
 
 impl Copying {
-    pub fn new(heap: Global) -> anyhow::Result<Copying> {
+    pub fn new(heap: Global) -> Result<Copying, AllocError> {
         Ok(Copying {
             from: letter(heap, Term(1))?,
             to: letter(heap, Term(1))?,
@@ -184,7 +184,7 @@ pub struct Take {
 }
 
 impl Take {
-    pub fn new(heap: Global) -> anyhow::Result<Take> {
+    pub fn new(heap: Global) -> Result<Take, AllocError> {
         Ok(Take {
             memory: vec![in heap; 0; MEMORY_WORDS]?,
             letter: letter(heap, Term(1))?,

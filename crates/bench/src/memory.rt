@@ -1,8 +1,8 @@
-//! Memories are too large for the stack: their words are on the heap.
-use anyhow::Context;
+//! A memory is too large for the stack: its words are on the heap, and are seen as a memory here.
 use raft_log::layout::Memory;
+use std::alloc::AllocError;
 
-/// Words as a memory.
-pub fn memory_of(words: &mut [u64]) -> anyhow::Result<&mut Memory> {
-    words.as_mut_array().context("a memory of another length")
+/// The memory of words that were made as many as it has.
+pub fn memory_of(words: &mut [u64]) -> Result<&mut Memory, AllocError> {
+    words.as_mut_array().ok_or(AllocError)
 }

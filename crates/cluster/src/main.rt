@@ -41,7 +41,7 @@ fn run(rt: &HostRuntime) -> anyhow::Result<()> {
     }
     node.how_far(rt)?;
     println!(rt; "power goes")?;
-    node.stop()?;
+    node.stop();
     start(rt, &mut node)?;
     println!(rt; "propose last")?;
     node.propose(rt, b"last")?;

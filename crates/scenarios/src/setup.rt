@@ -72,26 +72,30 @@ pub fn append_letter(heap: Global, offer: Offer<'_>) -> anyhow::Result<Vec<u8>> 
 }
 
 /// The bytes of any other letter; none of an append.
-pub fn letter(heap: Global, message: Message<usize>) -> anyhow::Result<Vec<u8>> {
+pub fn letter(heap: Global, message: Message<usize>) -> Result<Vec<u8>, AllocError> {
     let mut words = vec![in heap; 0; MEMORY_WORDS]?;
     let memory = memory_of(&mut words)?;
     match message {
         Message::Append { .. } => Ok(Vec::new(heap)),
-        _ => Ok(letter_of(heap, message, memory)?),
+        _ => letter_of(heap, message, memory),
     }
 }
 
 impl Node {
     /// A log with these terms, each entry with a value, decided up to `commit`.
-    pub fn set_log(&mut self, terms: &[u64], commit: u64) -> anyhow::Result<()> {
-        let memory = self.memory()?;
+    pub fn set_log(&mut self, terms: &[u64], commit: u64) {
+        let Ok(memory) = self.memory() else {
+            return;
+        };
         add_entries(memory, 0, terms);
         commit_to(memory, Index(commit));
-        self.keep()
+        self.keep();
     }
 
-    pub fn set_role(&mut self, term: u64, role: Role) -> anyhow::Result<()> {
-        let memory = self.memory()?;
+    pub fn set_role(&mut self, term: u64, role: Role) {
+        let Ok(memory) = self.memory() else {
+            return;
+        };
         let machine = load(memory);
         store(
             memory,
@@ -101,17 +105,14 @@ impl Node {
                 ..machine
             },
         );
-        self.keep()
+        self.keep();
     }
 
     /// How far another machine is, as the leader knows.
-    pub fn set_progress(
-        &mut self,
-        other: MachineId,
-        matched: u64,
-        next: u64,
-    ) -> anyhow::Result<()> {
-        let memory = self.memory()?;
+    pub fn set_progress(&mut self, other: MachineId, matched: u64, next: u64) {
+        let Ok(memory) = self.memory() else {
+            return;
+        };
         let place = other.0 as usize;
         if let Some(word) = memory[MATCHED..NEXT].get_mut(place) {
             *word = matched;
@@ -119,6 +120,5 @@ impl Node {
         if let Some(word) = memory[NEXT..DUE].get_mut(place) {
             *word = next;
         }
-        Ok(())
     }
 }

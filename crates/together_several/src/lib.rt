@@ -1,14 +1,16 @@
 //! The machine of several: one step of a machine, as the world outside sees it.
 #![tactic(auto)]
 
-ghost use Rattle.std.specs.Prelude.{◌≡◌, length};
+ghost use Rattle.std.specs.Prelude.{◌≡◌, ◌≤◌, length};
 ghost use Rattle.together_several.specs.Entry.{StepSays, EventSays, step_fits, own};
+ghost use Rattle.together.specs.Entry.{Did};
 ghost use Rattle.together.specs.Moves.{event_in, event_fits};
 
 pub mod several;
 #[cfg(test)]
 mod tests;
 
+use raft_log::layout::Memory;
 use several::Several;
 use together::Told;
 use together::engine::{self, Event, step_of};
@@ -37,4 +39,12 @@ pub fn step_event(memory: &mut [u64], event: Event<'_>, out: &mut [u8]) -> Told
     ensures { EventSays memory.old (event_in event.entry) out.old (event_fits (length memory.old) (event_in event.entry) (length out.old)) result memory.new out.new }
 {
     engine::step_event::<Several>(memory, event, out)
+}
+
+/// The same on a memory as an array, with room for a letter: nothing is refused for its length.
+pub fn react(memory: &mut Memory, event: Event<'_>, out: &mut [u8]) -> Told
+    requires { 4096 ≤ length out.old }
+    ensures { Did (own.step memory.old (event_in event.entry)) result memory.new out.old out.new }
+{
+    engine::react::<Several>(memory, event, out)
 }
