@@ -1,6 +1,6 @@
 //! Clusters in one process: letters as bytes from one machine to another, nothing on disk. They elect machine 1 % size and decide values of 16 bytes.
 use crate::VALUE;
-use crate::memory::memory_of;
+use crate::memory::{memory_of, room_of};
 use crate::timing::Work;
 use raft::header::ClusterSize;
 use raft_log::MachineId;
@@ -72,7 +72,7 @@ fn next_in_turn(last: Option<u64>, number: u64) -> Option<u64> {
 pub struct Machine {
     id: MachineId,
     pub memory: Vec<u64>,
-    pub out: Box<[u8; MAX_LETTER_BYTES]>,
+    pub out: Vec<u8>,
     // The number of the value that it applied last; none once one came out of turn.
     applied: Option<u64>,
 }
@@ -82,7 +82,7 @@ impl Machine {
         Ok(Machine {
             id,
             memory: vec![in heap; 0; MEMORY_WORDS]?,
-            out: Box::new(heap, [0; MAX_LETTER_BYTES])?,
+            out: vec![in heap; 0; MAX_LETTER_BYTES]?,
             applied: Some(0),
         })
     }
@@ -95,7 +95,7 @@ impl Machine {
     // An event, with all its acts; nothing is kept at a settle, as there is no disk.
     fn event(&mut self, post: &mut Post, event: Event<'_>) -> Result<(), AllocError> {
         let memory = memory_of(&mut self.memory)?;
-        let out = &mut *self.out;
+        let out = room_of(&mut self.out)?;
         let mut told = react(memory, event, out);
         for _ in 0..MAX_ACTS {
             match told {

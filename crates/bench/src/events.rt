@@ -1,7 +1,7 @@
 //! What one event costs the leader of three, with all its acts, at a short log and at a long one. After each the memory is set back, so that every event finds the same.
 use crate::VALUE;
 use crate::clusters::{Cluster, Machine};
-use crate::memory::memory_of;
+use crate::memory::{memory_of, room_of};
 use crate::timing::Work;
 use anyhow::Context;
 use messages::encoder::encode;
@@ -105,7 +105,7 @@ impl Reaction {
     // How many letters flew.
     fn letters(&mut self) -> Result<u64, AllocError> {
         let memory = memory_of(&mut self.leader.memory)?;
-        let out = &mut *self.leader.out;
+        let out = room_of(&mut self.leader.out)?;
         self.kind.set_back(memory, self.entries);
         let mut told = react(memory, self.kind.event(&self.letter), out);
         let mut letters = 0u64;
