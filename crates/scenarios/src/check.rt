@@ -37,7 +37,7 @@ impl Check {
     }
 
     /// Role, term, commit and log of a machine.
-    pub fn state(&mut self, node: &mut Node, expected: &str) -> anyhow::Result<()> {
+    pub fn state(&mut self, node: &Node, expected: &str) -> anyhow::Result<()> {
         self.same("state", State(node.memory()?), expected)
     }
 
@@ -56,7 +56,7 @@ impl Check {
     /// How far another machine is, as a leader knows.
     pub fn progress(
         &mut self,
-        node: &mut Node,
+        node: &Node,
         other: MachineId,
         expected: &str,
     ) -> anyhow::Result<()> {

@@ -64,7 +64,11 @@ impl Node {
         Ok(node)
     }
 
-    pub fn memory(&mut self) -> Result<&mut Memory, AllocError> {
+    pub fn memory(&self) -> Result<&Memory, AllocError> {
+        self.memory.as_array().ok_or(AllocError)
+    }
+
+    pub fn memory_mut(&mut self) -> Result<&mut Memory, AllocError> {
         memory_of(&mut self.memory)
     }
 

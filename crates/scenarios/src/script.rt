@@ -1,4 +1,6 @@
 //! A scenario as a list of steps: what is done to machines, and what is expected of them. Machines are called by upstream's numbers, from 1.
+ghost use Rattle.messages.specs.Message.{Sendable};
+
 use crate::check::Check;
 use crate::net::Net;
 use crate::setup::Offer;
@@ -136,7 +138,9 @@ fn follower(heard: bool) -> Role {
     Role::Follower(Ticks(0), heard)
 }
 
-fn ask(term: u64, last: (u64, u64)) -> Message<usize> {
+fn ask(term: u64, last: (u64, u64)) -> Message<usize>
+    ensures { Sendable result }
+{
     let (last_index, last_term) = last;
     Message::RequestVote {
         term: Term(term),
@@ -145,14 +149,18 @@ fn ask(term: u64, last: (u64, u64)) -> Message<usize> {
     }
 }
 
-fn vote(term: u64, granted: bool) -> Message<usize> {
+fn vote(term: u64, granted: bool) -> Message<usize>
+    ensures { Sendable result }
+{
     Message::RequestVoteResponse {
         term: Term(term),
         granted,
     }
 }
 
-fn ack(term: u64, index: u64) -> Message<usize> {
+fn ack(term: u64, index: u64) -> Message<usize>
+    ensures { Sendable result }
+{
     Message::AppendResponse {
         term: Term(term),
         index: Index(index),
@@ -160,7 +168,9 @@ fn ack(term: u64, index: u64) -> Message<usize> {
 }
 
 // The hint is the index itself, as in upstream's rows.
-fn reject(term: u64, index: u64) -> Message<usize> {
+fn reject(term: u64, index: u64) -> Message<usize>
+    ensures { Sendable result }
+{
     Message::AppendReject {
         term: Term(term),
         prev_index: Index(index),
@@ -168,7 +178,9 @@ fn reject(term: u64, index: u64) -> Message<usize> {
     }
 }
 
-fn here(term: u64) -> Message<usize> {
+fn here(term: u64) -> Message<usize>
+    ensures { Sendable result }
+{
     Message::TermNotice { term: Term(term) }
 }
 

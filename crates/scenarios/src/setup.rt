@@ -84,7 +84,7 @@ pub fn letter(heap: Global, message: Message<usize>) -> Result<Vec<u8>, AllocErr
 impl Node {
     /// A log with these terms, each entry with a value, decided up to `commit`.
     pub fn set_log(&mut self, terms: &[u64], commit: u64) {
-        let Ok(memory) = self.memory() else {
+        let Ok(memory) = self.memory_mut() else {
             return;
         };
         add_entries(memory, 0, terms);
@@ -93,7 +93,7 @@ impl Node {
     }
 
     pub fn set_role(&mut self, term: u64, role: Role) {
-        let Ok(memory) = self.memory() else {
+        let Ok(memory) = self.memory_mut() else {
             return;
         };
         let machine = load(memory);
@@ -110,7 +110,7 @@ impl Node {
 
     /// How far another machine is, as the leader knows.
     pub fn set_progress(&mut self, other: MachineId, matched: u64, next: u64) {
-        let Ok(memory) = self.memory() else {
+        let Ok(memory) = self.memory_mut() else {
             return;
         };
         let place = other.0 as usize;
