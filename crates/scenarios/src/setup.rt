@@ -2,7 +2,6 @@
 ghost use Rattle.messages.specs.Message.{Sendable};
 
 use crate::node::{Node, memory_of};
-use anyhow::ensure;
 use messages::encoder::encode;
 use messages::{MAX_LETTER_BYTES, Message};
 use raft::header::{Machine, Role, load, store};
@@ -50,13 +49,12 @@ fn letter_of(heap: Global, message: Message<usize>, memory: &Memory) -> Result<V
     Ok(out)
 }
 
-/// The bytes of an append.
-pub fn append_letter(heap: Global, offer: Offer<'_>) -> anyhow::Result<Vec<u8>> {
+/// The bytes of an append; none of one beyond what is made by hand.
+pub fn append_letter(heap: Global, offer: Offer<'_>) -> Result<Vec<u8>, AllocError> {
     let entries = offer.entries.len();
-    ensure!(
-        offer.prev <= LONGEST_LOG && entries <= MAX_BLOCK_ENTRIES,
-        "an append beyond what is made by hand"
-    );
+    if offer.prev > LONGEST_LOG || entries > MAX_BLOCK_ENTRIES {
+        return Ok(Vec::new(heap));
+    }
     let mut words = vec![in heap; 0; MEMORY_WORDS]?;
     let memory = memory_of(&mut words)?;
     fill(memory, offer.prev);
@@ -68,7 +66,7 @@ pub fn append_letter(heap: Global, offer: Offer<'_>) -> anyhow::Result<Vec<u8>> 
         commit: Index(offer.commit),
         entries,
     };
-    Ok(letter_of(heap, message, memory)?)
+    letter_of(heap, message, memory)
 }
 
 /// The bytes of any other letter; none of an append.
